@@ -1,0 +1,3 @@
+-- The definitions that the contracts of bitmap cite, in reading order.
+pub mod Lists
+pub mod Bits

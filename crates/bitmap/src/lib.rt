@@ -1,0 +1,1 @@
+// Bits in 64-bit words: validity masks and selection masks.

@@ -1,0 +1,8 @@
+-- The definitions that the contracts of union_array cite, in reading order.
+pub mod Types
+pub mod Buffers
+pub mod Refusal
+pub mod Slots
+pub mod Questions
+pub mod Lookup
+pub mod Slices
