@@ -1,5 +1,5 @@
 -- Lent memory: "type ids (i8), offsets (i32), value words (u64), mask words (u64), name bytes".
-use mathlib.Core.List.{List}
+use mathlib.Core.List.{List, []}
 use Prim.Native.Nat.{ℕ}
 use lib.IntN.{ℤ}
 use lib.ListN.{length}
@@ -15,6 +15,10 @@ pub record Buffers : Type 0 where
 -- the five slices of a call, in the order of its parameters
 abbrev pub buffersOf : List ℤ → List ℤ → List ℕ → List ℕ → List ℕ → Buffers
 buffersOf ids offsets values masks names = record { ids = ids; offsets = offsets; values = values; masks = masks; names = names }
+
+-- lent memory of which only the mask words matter
+abbrev pub onlyMasks : List ℕ → Buffers
+onlyMasks masks = buffersOf [] [] [] masks []
 
 -- "the amounts lent"
 abbrev pub amountsOf : Buffers → Amounts

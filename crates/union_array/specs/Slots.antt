@@ -2,11 +2,11 @@
 use mathlib.Core.Bool.{Bool, true, false, cond, not, _&&_, _||_}
 use mathlib.Core.Option.{Option, none, some}
 use mathlib.Core.List.{List, [], _∷_}
-use Prim.Native.Nat.{ℕ, _+_}
+use Prim.Native.Nat.{ℕ, _+_, _*_}
 use lib.Dec.{ltb}
-use lib.IntN.{ℤ, pos, negsuc, natAbs}
+use lib.IntN.{ℤ, pos, natAbs}
 use lib.ListN.{getD, take}
-use Rattle.bitmap.specs.Bits.{bitAt, count, sameId}
+use Rattle.bitmap.specs.Bits.{bitAt, pack, count, sameId}
 use Rattle.union_array.specs.Types.{Column, UnionArray, firstBit, byLayout}
 use Rattle.union_array.specs.Buffers.{Buffers}
 
@@ -47,6 +47,10 @@ slotAt a m i = byLayout (a .layout) i (natAbs (offsetAt a m i))
 -- slot p of a child is present: "set means present, clear means null"; a child without a mask has no null
 unfoldable pub present : Column → Buffers → ℕ → Bool
 present c m p = not (c .masked) || bitAt (m .masks) (firstBit c + p)
+
+-- 64 slots of a child at once: bit j is slot 64k + j; bits past the first len slots are 0
+unfoldable pub presenceChunk : Column → Buffers → ℕ → ℕ → ℕ
+presenceChunk c m len k = pack 64 (λ j. ltb (64 * k + j) len && present c m (64 * k + j))
 
 -- the nulls of a child, selected or not
 unfoldable pub nullsIn : Column → Buffers → ℕ

@@ -1,0 +1,82 @@
+-- The null mask and the named strategies: the answer, and the lent words at exit. A text in quotes is document 01's.
+use mathlib.Core.Bool.{Bool, true, false, cond, not, _&&_}
+use mathlib.Core.List.{List}
+use Prim.Native.Nat.{ℕ}
+use lib.Dec.{eqb, leb}
+use lib.ListN.{length}
+use Rattle.bitmap.specs.Bits.{count, wordsFor, written}
+use Rattle.union_array.specs.declared.UnionArray.{UnionArray}
+use Rattle.union_array.specs.Types.{byLayout}
+use Rattle.union_array.specs.Buffers.{Buffers}
+use Rattle.union_array.specs.Refusal.{no, _then_, ifYes}
+use Rattle.union_array.specs.Slots.{slotNull}
+use Rattle.union_array.specs.Questions.{checked}
+use Rattle.logical_nulls.specs.Setting.{question12}
+use Rattle.logical_nulls.specs.Route.{withNulls, routeOf}
+pub use Rattle.logical_nulls.specs.declared.LogicalNulls.{LogicalNulls}
+pub use Rattle.logical_nulls.specs.declared.SparseStrategy.{SparseStrategy}
+pub use Rattle.logical_nulls.specs.declared.SparseStrategy.the-variants.{Gather, SkipOne, SkipWithoutNulls, SkipFullyNull}
+
+-- the answer, and the lent words at exit
+pub record Masked : Type 0 where
+  pub answer : LogicalNulls
+  pub out : List ℕ
+
+abbrev pub masked : LogicalNulls → List ℕ → Masked
+masked answer out = record { answer = answer; out = out }
+
+-- 13. Enough words lent for the mask (also asked on routes 0 to 2)?
+abbrev pub question13 : UnionArray → ℕ → Bool
+question13 a lent = leb (wordsFor (a .count)) lent
+
+-- route 0: absent. Routes 1 and 2: present. Strategies: "the mask is absent if they hold no null"
+abbrev pub presentOn : ℕ → ℕ → Bool
+presentOn route nulls = cond (leb 3 route) (not (eqb nulls 0)) (not (eqb route 0))
+
+-- "presence, null count (0 when absent) and route"
+abbrev pub answerOn : ℕ → ℕ → LogicalNulls
+answerOn route nulls = record { nulls = cond (presentOn route nulls) nulls 0; refusal = 0; route = route; present = presentOn route nulls }
+
+-- "Bit i is clear exactly if slot i's child slot is null." "Routes 1 to 6 write ..; Route 0 writes nothing."
+unfoldable pub maskedBy : UnionArray → Buffers → ℕ → List ℕ → Masked
+maskedBy a m route out = masked (answerOn route (count (a .count) (slotNull a m))) (cond (eqb route 0) out (written (a .count) (slotNull a m) out))
+
+-- a refused call: "all other answer fields 0 and lent memory untouched"
+abbrev pub notMasked : ℕ → List ℕ → Masked
+notMasked n out = masked (record { nulls = 0; refusal = n; route = 0; present = false }) out
+
+-- "the null mask 7, 8, 12, 13", after 1 to 6
+abbrev pub nullsChecked : UnionArray → Buffers → ℕ → ℕ → ℕ
+nullsChecked a m cost lent = checked a m then no 12 (question12 cost) then no 13 (question13 a lent)
+
+-- the null mask at a gather cost, over the words lent for it
+unfoldable pub logicalNullsOf : UnionArray → Buffers → ℕ → List ℕ → Masked
+logicalNullsOf a m cost out =
+    ifYes (nullsChecked a m cost (length out)) (maskedBy a m (routeOf a m cost) out) (notMasked (nullsChecked a m cost (length out)) out)
+
+-- "Gather .. (3); SkipOne .. (4); SkipWithoutNulls .. (5); SkipFullyNull .. (6)"
+abbrev pub strategyRoute : SparseStrategy → ℕ
+strategyRoute Gather = 3
+strategyRoute SkipOne = 4
+strategyRoute SkipWithoutNulls = 5
+strategyRoute SkipFullyNull = 6
+
+-- "sparse unless Gather; M = N for SkipOne"
+abbrev pub applies : SparseStrategy → UnionArray → Buffers → Bool
+applies Gather a m = true
+applies SkipOne a m = byLayout (a .layout) (eqb (withNulls a m) (a .fields)) false
+applies SkipWithoutNulls a m = byLayout (a .layout) true false
+applies SkipFullyNull a m = byLayout (a .layout) true false
+
+-- 14. Named strategy: two or more fields; sparse unless Gather; M = N for SkipOne?
+unfoldable pub question14 : SparseStrategy → UnionArray → Buffers → Bool
+question14 s a m = leb 2 (a .fields) && applies s a m
+
+-- "a named strategy 7, 8, 14, 13", after 1 to 6
+abbrev pub strategyChecked : UnionArray → Buffers → SparseStrategy → ℕ → ℕ
+strategyChecked a m s lent = checked a m then no 14 (question14 s a m) then no 13 (question13 a lent)
+
+-- "A named strategy writes as its route does and answers the null count, absent exactly if there is no null."
+unfoldable pub strategyOf : UnionArray → Buffers → SparseStrategy → List ℕ → Masked
+strategyOf a m s out =
+    ifYes (strategyChecked a m s (length out)) (maskedBy a m (strategyRoute s) out) (notMasked (strategyChecked a m s (length out)) out)

@@ -1,0 +1,6 @@
+-- The definitions that the contracts of union_builder cite, in reading order.
+pub mod Utf8
+pub mod Names
+pub mod Builder
+pub mod Append
+pub mod Finish
