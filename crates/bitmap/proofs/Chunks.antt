@@ -21,13 +21,13 @@ one-shl n h = ap (λ (m : ℕ). m % 2 ^ 64) (one-mul (2 ^ n)) ∙ mod-eq-of-lt (
 
 module _ (ws : List ℕ) (w off : ℕ) (ok : (i : ℕ) → Fits w64 (getD ws i 0)) (h : off < 64) where
   -- where nothing of the next word comes in
-  alone : (getD ws (w + 1) 0 * 2 ^ (64 - off)) % 2 ^ 64 ≡ 0 → getD ws w 0 / 2 ^ off ≡ pack 64 (λ j. bitAt ws (w * 64 + off + j))
+  alone : (getD ws (w + 1) 0 * 2 ^ (64 - off)) % 2 ^ 64 ≡ 0 → getD ws w 0 / 2 ^ off ≡ pack 64 (λ j. bitAt ws (64 * w + off + j))
   alone e = sym (ap (bitOr (getD ws w 0 / 2 ^ off)) e ∙ or-zero-r (getD ws w 0 / 2 ^ off)) ∙ join-bits ws w off ok h
 
-  pub join-even : off ≡ 0 → getD ws w 0 / 2 ^ off ≡ pack 64 (λ j. bitAt ws (w * 64 + off + j))
+  pub join-even : off ≡ 0 → getD ws w 0 / 2 ^ off ≡ pack 64 (λ j. bitAt ws (64 * w + off + j))
   join-even e = alone (ap (λ (o : ℕ). (getD ws (w + 1) 0 * 2 ^ (64 - o)) % 2 ^ 64) e ∙ mul-mod-left (getD ws (w + 1) 0) (2 ^ 64))
 
-  pub join-last : length ws ≤ w + 1 → getD ws w 0 / 2 ^ off ≡ pack 64 (λ j. bitAt ws (w * 64 + off + j))
+  pub join-last : length ws ≤ w + 1 → getD ws w 0 / 2 ^ off ≡ pack 64 (λ j. bitAt ws (64 * w + off + j))
   join-last l =
       alone (ap (λ (y : ℕ). (y * 2 ^ (64 - off)) % 2 ^ 64) (List·getD-eq-default ws 0 l) ∙ ap (λ (y : ℕ). y % 2 ^ 64) (zero-mul (2 ^ (64 - off))))
 

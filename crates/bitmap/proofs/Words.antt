@@ -241,27 +241,28 @@ count-not (suc n) f = omega (arith, count-not n (λ j. f (suc j)), not-digit (f 
 
 -- ---- bits of a list of words
 
-pub bit-word : (ws : List ℕ) (w i : ℕ) → i < 64 → bitAt ws (w * 64 + i) ≡ testBit (getD ws w 0) i
+pub bit-word : (ws : List ℕ) (w i : ℕ) → i < 64 → bitAt ws (64 * w + i) ≡ testBit (getD ws w 0) i
 unfolding bitAt
-bit-word ws w i h = ap₂ (λ (a b : ℕ). testBit (getD ws a 0) b) (digits-div w h) (digits-mod w h)
+bit-word ws w i h =
+    ap (λ (x : ℕ). bitAt ws (x + i)) (mul-comm 64 w) ∙ ap₂ (λ (a b : ℕ). testBit (getD ws a 0) b) (digits-div w h) (digits-mod w h)
 
-or-false : (b : Bool) → (b || false) ≡ b
+pub or-false : (b : Bool) → (b || false) ≡ b
 or-false true = refl
 or-false false = refl
 
 -- two words joined: the high bits of x below the low bits of y
 pub join-bits : (ws : List ℕ) (w off : ℕ) → ((i : ℕ) → Fits w64 (getD ws i 0)) → off < 64
-    → bitOr (getD ws w 0 / 2 ^ off) ((getD ws (w + 1) 0 * 2 ^ (64 - off)) % 2 ^ 64) ≡ pack 64 (λ j. bitAt ws (w * 64 + off + j))
+    → bitOr (getD ws w 0 / 2 ^ off) ((getD ws (w + 1) 0 * 2 ^ (64 - off)) % 2 ^ 64) ≡ pack 64 (λ j. bitAt ws (64 * w + off + j))
 join-bits ws w off ok h =
     packed 64 _ _
     (or-lt 64 _ _ (lt-of-le-of-lt (shr-le (getD ws w 0) off) (ok w .fits)) (mod-lt _ (pow-pos 64)))
     (λ j l. test-or _ _ j ∙ each j l (decLt (off + j) 64))
   where
     each : (j : ℕ) → j < 64 → Dec (off + j < 64)
-        → (testBit (getD ws w 0 / 2 ^ off) j || testBit ((getD ws (w + 1) 0 * 2 ^ (64 - off)) % 2 ^ 64) j) ≡ bitAt ws (w * 64 + off + j)
+        → (testBit (getD ws w 0 / 2 ^ off) j || testBit ((getD ws (w + 1) 0 * 2 ^ (64 - off)) % 2 ^ 64) j) ≡ bitAt ws (64 * w + off + j)
     each j l (yes k) =
         ap₂ _||_ (test-shr (getD ws w 0) off j) (test-mod 64 _ j l ∙ test-shl-low (getD ws (w + 1) 0) (64 - off) j (omega arith))
-        ∙ or-false (testBit (getD ws w 0) (off + j)) ∙ sym (bit-word ws w (off + j) k) ∙ ap (bitAt ws) (sym (add-assoc (w * 64) off j))
+        ∙ or-false (testBit (getD ws w 0) (off + j)) ∙ sym (bit-word ws w (off + j) k) ∙ ap (bitAt ws) (sym (add-assoc (64 * w) off j))
     each j l (no k) =
         ap₂ _||_ (test-shr (getD ws w 0) off j ∙ test-out 64 (getD ws w 0) (off + j) (ok w .fits) (le-of-suc-le-suc (lt-of-not-le k)))
         (test-mod 64 _ j l ∙ ap (testBit (getD ws (w + 1) 0 * 2 ^ (64 - off))) (at .1) ∙ test-shl (getD ws (w + 1) 0) (64 - off) (at .0))
