@@ -31,14 +31,17 @@ module _ (ws : List ℕ) (w off : ℕ) (ok : (i : ℕ) → Fits w64 (getD ws i 0
   join-last l =
       alone (ap (λ (y : ℕ). (y * 2 ^ (64 - off)) % 2 ^ 64) (List·getD-eq-default ws 0 l) ∙ ap (λ (y : ℕ). y % 2 ^ 64) (zero-mul (2 ^ (64 - off))))
 
-module _ (ws : List ℕ) (s len k : ℕ) (h : 64 * k < len) where
-  same-place : (j : ℕ) → (s + 64 * k) / 64 * 64 + (s + 64 * k) % 64 + j ≡ s + 64 * k + j
+-- chunk k of the mask of len bits that starts at bit b of word w
+module _ (ws : List ℕ) (w b len k : ℕ) (h : 64 * k < len) where
+  same-place : (j : ℕ) → 64 * (w + (b + 64 * k) / 64) + (b + 64 * k) % 64 + j ≡ 64 * w + b + 64 * k + j
   same-place j = omega arith
 
-  pub chunk-whole : 64 ≤ len - 64 * k → pack 64 (λ j. bitAt ws ((s + 64 * k) / 64 * 64 + (s + 64 * k) % 64 + j)) ≡ chunkOf ws s len k
+  pub chunk-whole : 64 ≤ len - 64 * k
+      → pack 64 (λ j. bitAt ws (64 * (w + (b + 64 * k) / 64) + (b + 64 * k) % 64 + j)) ≡ chunkOf ws (64 * w + b) len k
   unfolding chunkOf
-  chunk-whole l = pack-ext 64 _ _ (λ j b. rw (lt-ltb (64 * k + j) len (omega arith)) (ap (bitAt ws) (same-place j)))
+  chunk-whole l = pack-ext 64 _ _ (λ j t. rw (lt-ltb (64 * k + j) len (omega arith)) (ap (bitAt ws) (same-place j)))
 
-  pub chunk-cut : pack 64 (λ j. bitAt ws ((s + 64 * k) / 64 * 64 + (s + 64 * k) % 64 + j)) % 2 ^ (len - 64 * k) ≡ chunkOf ws s len k
+  pub chunk-cut : pack 64 (λ j. bitAt ws (64 * (w + (b + 64 * k) / 64) + (b + 64 * k) % 64 + j)) % 2 ^ (len - 64 * k)
+      ≡ chunkOf ws (64 * w + b) len k
   unfolding chunkOf
-  chunk-cut = low-pack 64 (len - 64 * k) _ ∙ pack-ext 64 _ _ (λ j b. ap₂ _&&_ (ltb-shift (64 * k) j len) (ap (bitAt ws) (same-place j)))
+  chunk-cut = low-pack 64 (len - 64 * k) _ ∙ pack-ext 64 _ _ (λ j t. ap₂ _&&_ (ltb-shift (64 * k) j len) (ap (bitAt ws) (same-place j)))

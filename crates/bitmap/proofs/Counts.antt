@@ -1,15 +1,18 @@
--- The count of the set bits of a mask, a chunk at a time. Assumes nothing.
+-- The count of the clear bits of a mask, a chunk at a time. Assumes nothing.
 use mathlib.Core.Path.{_≡_, refl, sym, ap, ap₂, _∙_, subst}
 use mathlib.Core.Bool.{Bool, true, false, not, _&&_}
 use mathlib.Core.List.{List}
-use Prim.Native.Nat.{ℕ, zero, suc, _+_, _-_, _*_, _≤_, _<_, suc-le-suc}
-use native.Mathlib.Nat.{zero-lt-suc, add-sub-of-le, add-zero, add-assoc, le-add-right}
+use Prim.Native.Nat.{ℕ, zero, suc, _+_, _-_, _*_, _^_, _≤_, _<_, min, suc-le-suc}
+use native.Mathlib.Nat.{zero-lt-suc, add-sub-of-le, add-zero, add-assoc, le-add-right, mod-lt, le-of-suc-le-suc, lt-of-not-le}
+use native.Mathlib.Decide.{decLt}
 use native.Mathlib.Omega.{arith}
 use borrow.Author.Tests.{lt-ltb, le-ltb}
 use lib.Dec.{ltb}
-use lib.Count.{ones, ones-le}
-use Rattle.bitmap.specs.Bits.{digit, pack, count, bitAt, chunkOf, nullsOf}
-use Rattle.bitmap.proofs.Words.{count-ext, count-add, count-le, count-not, ones-pack, pack-lt}
+use lib.Pow.{pow-pos}
+use lib.Count.{ones}
+use Rattle.bitmap.specs.Bits.{digit, testBit, pack, count, bitAt, chunkOf, nullsOf}
+use Rattle.bitmap.specs.Counting.{clearIn}
+use Rattle.bitmap.proofs.Words.{count-ext, count-add, count-le, count-not, ones-pack, pack-test, pack-ext, pack-lt, low-pack, ltb-shift, test-pack}
 
 pub count-none : (n : ℕ) (f : ℕ → Bool) → ((j : ℕ) → j < n → f j ≡ false) → count n f ≡ 0
 unfolding count
@@ -26,40 +29,64 @@ count-cut m n f h =
     (count-none (n - m) (λ j. ltb (m + j) m && f (m + j)) (λ j l. rw (le-ltb (m + j) m (le-add-right m j))))
     ∙ add-zero (count m f)
 
--- the set bits of the first n, none past len
-unfoldable pub setIn : List ℕ → ℕ → ℕ → ℕ → ℕ
-setIn ws s len n = count n (λ i. ltb i len && bitAt ws (s + i))
+-- a word of bits below m
+pub cut-lt : (n m : ℕ) (f : ℕ → Bool) → pack n (λ j. ltb j m && f j) < 2 ^ m
+cut-lt n m f = subst (λ (x : ℕ). x < 2 ^ m) (low-pack n m f) (mod-lt (pack n f) (pow-pos m))
 
-pub set-none : (ws : List ℕ) (s len : ℕ) → setIn ws s len 0 ≡ 0
-unfolding setIn count
-set-none ws s len = refl
+-- the clear bits are those of the n that are not ones
+pub clear-ones : (n x : ℕ) → x < 2 ^ n → clearIn x n + ones x ≡ n
+unfolding clearIn
+clear-ones n x h =
+    ap (λ (m : ℕ). count n (λ j. not (testBit x j)) + m) (ap ones (sym (pack-test n x h)) ∙ ones-pack n (testBit x)) ∙ count-not n (testBit x)
 
-pub set-le : (ws : List ℕ) (s len n : ℕ) → setIn ws s len n ≤ n
-unfolding setIn
-set-le ws s len n = count-le n (λ i. ltb i len && bitAt ws (s + i))
+pub clear-le : (n x : ℕ) → clearIn x n ≤ n
+unfolding clearIn
+clear-le n x = count-le n (λ j. not (testBit x j))
 
-module _ (ws : List ℕ) (s len k : ℕ) where
-  pub chunk-count : setIn ws s len (64 * k) + ones (chunkOf ws s len k) ≡ setIn ws s len (64 * (k + 1))
-  unfolding chunkOf setIn
-  chunk-count =
-      sym (
-      ap (setIn ws s len) more ∙ count-add (64 * k) 64 (λ i. ltb i len && bitAt ws (s + i))
-      ∙ ap (λ (n : ℕ). setIn ws s len (64 * k) + n)
-      (count-ext 64 _ (λ j. ltb (64 * k + j) len && bitAt ws (s + 64 * k + j)) (λ j h. ap (λ (n : ℕ). ltb (64 * k + j) len && bitAt ws n) (sym (add-assoc s (64 * k) j)))
-      ∙ sym (ones-pack 64 (λ j. ltb (64 * k + j) len && bitAt ws (s + 64 * k + j))))
-      )
+pub nulls-none : (ws : List ℕ) (s : ℕ) → nullsOf ws s 0 ≡ 0
+unfolding nullsOf count
+nulls-none ws s = refl
+
+pub nulls-le : (ws : List ℕ) (s len : ℕ) → nullsOf ws s len ≤ len
+unfolding nullsOf
+nulls-le ws s len = count-le len (λ i. not (bitAt ws (s + i)))
+
+module _ (ws : List ℕ) (s len k : ℕ) (h : 64 * k < len) where
+  -- the bits of a chunk that are within the mask
+  abbrev within : ℕ
+  within = min 64 (len - 64 * k)
+
+  abbrev bits : ℕ → Bool
+  bits j = ltb (64 * k + j) len && bitAt ws (s + 64 * k + j)
+
+  pub chunk-fits : chunkOf ws s len k < 2 ^ min 64 (len - 64 * k)
+  unfolding chunkOf
+  chunk-fits = at (decLt (len - 64 * k) 64)
     where
-      more : 64 * (k + 1) ≡ 64 * k + 64
+      at : Dec (len - 64 * k < 64) → pack 64 bits < 2 ^ within
+      at (yes l) =
+          let e : within ≡ len - 64 * k = omega arith in
+          subst (λ (n : ℕ). pack 64 bits < 2 ^ n) (sym e)
+          (subst (λ (x : ℕ). x < 2 ^ (len - 64 * k)) (pack-ext 64 _ bits (λ j t. ap (λ (b : Bool). b && bitAt ws (s + 64 * k + j)) (ltb-shift (64 * k) j len)))
+          (cut-lt 64 (len - 64 * k) (λ j. bitAt ws (s + 64 * k + j))))
+      at (no l) =
+          let m : 64 ≤ len - 64 * k = le-of-suc-le-suc (lt-of-not-le l) in
+          let e : within ≡ 64 = omega arith in
+          subst (λ (n : ℕ). pack 64 bits < 2 ^ n) (sym e) (pack-lt 64 bits)
+
+  pub chunk-clear : nullsOf ws s (min (64 * k) len) + clearIn (chunkOf ws s len k) (min 64 (len - 64 * k)) ≡ nullsOf ws s (min (64 * (k + 1)) len)
+  unfolding nullsOf clearIn chunkOf
+  chunk-clear =
+      ap₂ (λ (a b : ℕ). count a (λ i. not (bitAt ws (s + i))) + b) first
+      (count-ext within (λ j. not (testBit (pack 64 bits) j)) (λ j. not (bitAt ws (s + (64 * k + j)))) (λ j l. ap not (each j l)))
+      ∙ sym (count-add (64 * k) within (λ i. not (bitAt ws (s + i)))) ∙ ap (λ (n : ℕ). count n (λ i. not (bitAt ws (s + i)))) more
+    where
+      first : min (64 * k) len ≡ 64 * k
+      first = omega arith
+
+      more : 64 * k + within ≡ min (64 * (k + 1)) len
       more = omega arith
 
-  pub chunk-count-le : ones (chunkOf ws s len k) ≤ 64
-  unfolding chunkOf
-  chunk-count-le = ones-le 64 _ (pack-lt 64 (λ j. ltb (64 * k + j) len && bitAt ws (s + 64 * k + j)))
-
-  -- the whole less the set is the clear
-  pub nulls-left : len ≤ 64 * k → (len - setIn ws s len (64 * k) ≡ nullsOf ws s len) × (setIn ws s len (64 * k) ≤ len)
-  unfolding nullsOf setIn
-  nulls-left h =
-      let whole : setIn ws s len (64 * k) ≡ count len (λ i. bitAt ws (s + i)) = count-cut len (64 * k) (λ i. bitAt ws (s + i)) h in
-      let parts = count-not len (λ i. bitAt ws (s + i)) in
-      (omega arith, omega arith)
+      each : (j : ℕ) → j < within → testBit (pack 64 bits) j ≡ bitAt ws (s + (64 * k + j))
+      each j l =
+          test-pack 64 bits j (omega arith) ∙ rw (lt-ltb (64 * k + j) len (omega arith)) (ap (bitAt ws) (add-assoc s (64 * k) j))

@@ -5,3 +5,4 @@ pub mod Setting
 pub mod Ids
 pub mod Chunks
 pub mod Counts
+pub mod OneBit

@@ -246,6 +246,13 @@ unfolding bitAt
 bit-word ws w i h =
     ap (λ (x : ℕ). bitAt ws (x + i)) (mul-comm 64 w) ∙ ap₂ (λ (a b : ℕ). testBit (getD ws a 0) b) (digits-div w h) (digits-mod w h)
 
+-- bit b of word w, where b may lie in a later word
+pub bit-read : (ws : List ℕ) (w b : ℕ) → bitAt ws (64 * w + b) ≡ testBit (getD ws (w + b / 64) 0) (b % 64)
+bit-read ws w b = ap (bitAt ws) whole ∙ bit-word ws (w + b / 64) (b % 64) (omega arith)
+  where
+    whole : 64 * w + b ≡ 64 * (w + b / 64) + b % 64
+    whole = omega arith
+
 pub or-false : (b : Bool) → (b || false) ≡ b
 or-false true = refl
 or-false false = refl
