@@ -29,6 +29,10 @@ count-cut m n f h =
     (count-none (n - m) (λ j. ltb (m + j) m && f (m + j)) (λ j l. rw (le-ltb (m + j) m (le-add-right m j))))
     ∙ add-zero (count m f)
 
+pub not-not : (b : Bool) → not (not b) ≡ b
+not-not true = refl
+not-not false = refl
+
 -- a word of bits below m
 pub cut-lt : (n m : ℕ) (f : ℕ → Bool) → pack n (λ j. ltb j m && f j) < 2 ^ m
 cut-lt n m f = subst (λ (x : ℕ). x < 2 ^ m) (low-pack n m f) (mod-lt (pack n f) (pow-pos m))
@@ -51,42 +55,73 @@ pub nulls-le : (ws : List ℕ) (s len : ℕ) → nullsOf ws s len ≤ len
 unfolding nullsOf
 nulls-le ws s len = count-le len (λ i. not (bitAt ws (s + i)))
 
-module _ (ws : List ℕ) (s len k : ℕ) (h : 64 * k < len) where
-  -- the bits of a chunk that are within the mask
-  abbrev within : ℕ
-  within = min 64 (len - 64 * k)
-
+-- word k of a mask of len bits whose bit i is f i
+module _ (f : ℕ → Bool) (len k : ℕ) where
   abbrev bits : ℕ → Bool
-  bits j = ltb (64 * k + j) len && bitAt ws (s + 64 * k + j)
+  bits j = ltb (64 * k + j) len && f (64 * k + j)
 
-  pub chunk-fits : chunkOf ws s len k < 2 ^ min 64 (len - 64 * k)
-  unfolding chunkOf
-  chunk-fits = at (decLt (len - 64 * k) 64)
+  -- its bits past the end are 0
+  pub word-fits : pack 64 (λ j. ltb (64 * k + j) len && f (64 * k + j)) < 2 ^ min 64 (len - 64 * k)
+  word-fits = at (decLt (len - 64 * k) 64)
     where
-      at : Dec (len - 64 * k < 64) → pack 64 bits < 2 ^ within
+      at : Dec (len - 64 * k < 64) → pack 64 bits < 2 ^ min 64 (len - 64 * k)
       at (yes l) =
-          let e : within ≡ len - 64 * k = omega arith in
+          let e : min 64 (len - 64 * k) ≡ len - 64 * k = omega arith in
           subst (λ (n : ℕ). pack 64 bits < 2 ^ n) (sym e)
-          (subst (λ (x : ℕ). x < 2 ^ (len - 64 * k)) (pack-ext 64 _ bits (λ j t. ap (λ (b : Bool). b && bitAt ws (s + 64 * k + j)) (ltb-shift (64 * k) j len)))
-          (cut-lt 64 (len - 64 * k) (λ j. bitAt ws (s + 64 * k + j))))
+          (subst (λ (x : ℕ). x < 2 ^ (len - 64 * k)) (pack-ext 64 _ bits (λ j t. ap (λ (b : Bool). b && f (64 * k + j)) (ltb-shift (64 * k) j len)))
+          (cut-lt 64 (len - 64 * k) (λ j. f (64 * k + j))))
       at (no l) =
           let m : 64 ≤ len - 64 * k = le-of-suc-le-suc (lt-of-not-le l) in
-          let e : within ≡ 64 = omega arith in
+          let e : min 64 (len - 64 * k) ≡ 64 = omega arith in
           subst (λ (n : ℕ). pack 64 bits < 2 ^ n) (sym e) (pack-lt 64 bits)
 
-  pub chunk-clear : nullsOf ws s (min (64 * k) len) + clearIn (chunkOf ws s len k) (min 64 (len - 64 * k)) ≡ nullsOf ws s (min (64 * (k + 1)) len)
-  unfolding nullsOf clearIn chunkOf
-  chunk-clear =
-      ap₂ (λ (a b : ℕ). count a (λ i. not (bitAt ws (s + i))) + b) first
-      (count-ext within (λ j. not (testBit (pack 64 bits) j)) (λ j. not (bitAt ws (s + (64 * k + j)))) (λ j l. ap not (each j l)))
-      ∙ sym (count-add (64 * k) within (λ i. not (bitAt ws (s + i)))) ∙ ap (λ (n : ℕ). count n (λ i. not (bitAt ws (s + i)))) more
+  -- the clear bits of the words before it, and its own
+  pub word-clear : 64 * k < len
+      → count (min (64 * k) len) (λ i. not (f i)) + clearIn (pack 64 (λ j. ltb (64 * k + j) len && f (64 * k + j))) (min 64 (len - 64 * k))
+        ≡ count (min (64 * (k + 1)) len) (λ i. not (f i))
+  unfolding clearIn
+  word-clear h =
+      ap₂ (λ (a b : ℕ). count a (λ i. not (f i)) + b) first
+      (count-ext (min 64 (len - 64 * k)) (λ j. not (testBit (pack 64 bits) j)) (λ j. not (f (64 * k + j))) (λ j l. ap not (each j l)))
+      ∙ sym (count-add (64 * k) (min 64 (len - 64 * k)) (λ i. not (f i))) ∙ ap (λ (n : ℕ). count n (λ i. not (f i))) more
     where
       first : min (64 * k) len ≡ 64 * k
       first = omega arith
 
-      more : 64 * k + within ≡ min (64 * (k + 1)) len
+      more : 64 * k + min 64 (len - 64 * k) ≡ min (64 * (k + 1)) len
       more = omega arith
 
-      each : (j : ℕ) → j < within → testBit (pack 64 bits) j ≡ bitAt ws (s + (64 * k + j))
-      each j l =
-          test-pack 64 bits j (omega arith) ∙ rw (lt-ltb (64 * k + j) len (omega arith)) (ap (bitAt ws) (add-assoc s (64 * k) j))
+      each : (j : ℕ) → j < min 64 (len - 64 * k) → testBit (pack 64 bits) j ≡ f (64 * k + j)
+      each j l = test-pack 64 bits j (omega arith) ∙ rw (lt-ltb (64 * k + j) len (omega arith))
+
+-- the same of a mask in words, a chunk at a time
+module _ (ws : List ℕ) (s len k : ℕ) where
+  abbrev marks : ℕ → Bool
+  marks i = bitAt ws (s + i)
+
+  chunk-word : chunkOf ws s len k ≡ pack 64 (bits marks len k)
+  unfolding chunkOf
+  chunk-word = pack-ext 64 _ _ (λ j h. ap (λ (p : ℕ). ltb (64 * k + j) len && bitAt ws p) (add-assoc s (64 * k) j))
+
+  pub chunk-fits : (x n : ℕ) → x ≡ chunkOf ws s len k → n ≡ min 64 (len - 64 * k) → x < 2 ^ n
+  chunk-fits x n e m = rw (e, m, chunk-word) (word-fits marks len k)
+
+  -- one more turn: c of the words before, and the clear bits of chunk k
+  pub chunk-turn : (c x n : ℕ) → 64 * k < len → c ≡ nullsOf ws s (min (64 * k) len) → x ≡ chunkOf ws s len k → n ≡ min 64 (len - 64 * k)
+      → c + clearIn x n ≡ nullsOf ws s (min (64 * (k + 1)) len)
+  unfolding nullsOf
+  chunk-turn c x n h e q m = rw (e, q, m, chunk-word) (word-clear marks len k h)
+
+-- the same of a written mask: c nulls before word k, and its clear bits
+pub written-turn : (isNull : ℕ → Bool) (len k c x n : ℕ) → 64 * k < len → c ≡ count (min (64 * k) len) isNull
+    → x ≡ pack 64 (λ j. ltb (64 * k + j) len && not (isNull (64 * k + j))) → n ≡ min 64 (len - 64 * k)
+    → c + clearIn x n ≡ count (min (64 * (k + 1)) len) isNull
+written-turn isNull len k c x n h e q m =
+    rw (e, q, m) (ap (λ (t : ℕ). t + clearIn (pack 64 (bits present len k)) (min 64 (len - 64 * k))) (twice (min (64 * k) len)) ∙ word-clear present len k h)
+    ∙ sym (twice (min (64 * (k + 1)) len))
+  where
+    present : ℕ → Bool
+    present i = not (isNull i)
+
+    twice : (t : ℕ) → count t isNull ≡ count t (λ i. not (present i))
+    twice t = count-ext t isNull _ (λ i l. sym (not-not (isNull i)))

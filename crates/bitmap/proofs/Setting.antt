@@ -13,6 +13,7 @@ use lib.ListN.{getD, length, set, length-set}
 use lib.Seq.{getD-set-same, getD-set-other, set-out}
 use Rattle.bitmap.specs.Bits.{testBit, bitAt, pack, count, wordsFor, nullsOf, setBit, written}
 use Rattle.bitmap.proofs.Words.{test-pack, pack-ext, count-ext}
+use Rattle.bitmap.proofs.Counts.{not-not}
 use Rattle.bitmap.proofs.Tables.{three, retable-length, retable-at, retable-past, retable-ext}
 
 -- ---- setBit
@@ -55,10 +56,6 @@ module _ (ws : List ℕ) (p : ℕ) (v : Bool) where
       here e (no k) = ap (λ (l : List ℕ). testBit (getD l (p / 64) 0) (q % 64)) (set-out ws (p / 64) (pack 64 put) (le-of-suc-le-suc (lt-of-not-le k)))
 
 -- ---- written
-
-not-not : (b : Bool) → not (not b) ≡ b
-not-not true = refl
-not-not false = refl
 
 module _ (n : ℕ) (isNull : ℕ → Bool) (out : List ℕ) where
   -- bit j of word k
