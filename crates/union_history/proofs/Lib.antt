@@ -8,3 +8,7 @@ pub mod Slots
 pub mod Columns
 pub mod Names
 pub mod Step
+pub mod Order
+pub mod Ask
+pub mod Sizes
+pub mod Agree
