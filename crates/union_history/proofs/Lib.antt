@@ -12,3 +12,4 @@ pub mod Order
 pub mod Ask
 pub mod Sizes
 pub mod Agree
+pub mod Run
