@@ -13,3 +13,4 @@ pub mod Ask
 pub mod Sizes
 pub mod Agree
 pub mod Run
+pub mod Slices
