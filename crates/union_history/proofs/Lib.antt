@@ -14,3 +14,4 @@ pub mod Sizes
 pub mod Agree
 pub mod Run
 pub mod Slices
+pub mod Nulls
