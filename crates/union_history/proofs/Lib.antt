@@ -15,3 +15,4 @@ pub mod Agree
 pub mod Run
 pub mod Slices
 pub mod Nulls
+pub mod Read
