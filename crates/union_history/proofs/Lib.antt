@@ -16,3 +16,4 @@ pub mod Run
 pub mod Slices
 pub mod Nulls
 pub mod Read
+pub mod Whole
