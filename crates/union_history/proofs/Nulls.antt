@@ -1,5 +1,4 @@
 -- The null mask marks the slots whose child slot is null, on every route.
--- ---- a slot that `value` answers: its child is found, its slot is in it, and it is null exactly if the answer is `missing`
 use mathlib.Core.Bool.{Bool, _&&_, cond, false, false≢true, not, true}
 use mathlib.Core.List.{List, [], _∷_}
 use mathlib.Core.Logic.{_≢_}
@@ -37,6 +36,7 @@ use Rattle.union_history.specs.Claim.{Marks}
 use Rattle.union_history.proofs.Yes.{and-both}
 use Rattle.union_history.proofs.Slices.{Good, all-at, good-asked, slot-asked, told}
 
+-- ---- a slot that `value` answers: its child is found, its slot is in it, and it is null exactly if the answer is `missing`
 pub record Slot (a : UnionArray) (m : Buffers) (i : ℕ) (missing : Bool) : Type 0 where
   pub found : namedAt a m i ≡ true
   pub inside : offsetFits a m i ≡ true

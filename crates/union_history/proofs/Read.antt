@@ -34,7 +34,7 @@ use Rattle.union_history.proofs.Stores.{mask-room}
 use Rattle.union_history.proofs.Counts.{countOf-before, countOf-rise, eqb-same}
 use Rattle.union_history.proofs.Inv.{Counted, Held, Holds, Limits, logOf, ownSlot}
 use Rattle.union_history.proofs.Step.{Lent, slotsOf-le}
-use Rattle.union_history.proofs.Order.{kids, ordered-all, ordered-child, ordered-distinct, ordered-length}
+use Rattle.union_history.proofs.Order.{columnsOf, ordered-all, ordered-column, ordered-distinct, ordered-length}
 use Rattle.union_history.proofs.Slices.{Good, chain-count, chain-good, chain-layout, chain-offsets, chain-start, chain-value, slice-accepted, told, value-told}
 use Rattle.union_history.proofs.Nulls.{Slot, mask-marks, passes, slot-of, slot-passes, strategy-marks}
 
@@ -91,7 +91,7 @@ mask-fits false n lent h = refl
 mask-fits true n lent h = le-leb _ _ h
 
 slots-in : (l : Layout) (es : List Entry) (n : ℕ) (f : ℕ → Named) → ((k : ℕ) → (f k) .column .slots ≡ slotsOf l k es)
-    → byLayout l (all (λ c. eqb (c .slots) (length es)) (kids (ordered n f))) true ≡ true
+    → byLayout l (all (λ c. eqb (c .slots) (length es)) (columnsOf (ordered n f))) true ≡ true
 slots-in Dense es n f h = refl
 slots-in Sparse es n f h = ordered-all (λ c. eqb (c .slots) (length es)) n f (λ k q. rw (h k) (eqb-same (length es)))
 
@@ -117,7 +117,7 @@ module _ (l : Layout) (C K : ℕ) (cols : List LogColumn) (es : List Entry) (cs 
   row k = record { name = (getD cols k noLogColumn) .name; column = logColumn l bk k }
 
   abbrev ch : List Column
-  ch = kids (ordered (length cols) row)
+  ch = columnsOf (ordered (length cols) row)
 
   own : (j : ℕ) → (row j) .column .id ≡ pos j
   own j = refl
@@ -186,7 +186,7 @@ module _ (l : Layout) (C K : ℕ) (cols : List LogColumn) (es : List Entry) (cs 
       let q : Held l C m cols i e (ownSlot l es i) = hold .held i h in
       let c : childAt (logArray l bk) m i ≡ some (logColumn l bk (e .id))
       = ap (λ (x : List Column). columnOf x (getD (m .ids) (0 + i) (pos 0))) in-use ∙ ap (λ (x : ℕ). columnOf ch (getD (m .ids) x (pos 0))) (zero-add i)
-      ∙ ap (λ (z : ℤ). columnOf ch z) (q .isId) ∙ ordered-child row own (length cols) (e .id) (q .known) in
+      ∙ ap (λ (z : ℤ). columnOf ch z) (q .isId) ∙ ordered-column row own (length cols) (e .id) (q .known) in
       value-told (logArray l bk) m i good h
       ∙ ap (λ (x : Option Column). told l m x (offsetAt (logArray l bk) m i) i) c
       ∙ ap (λ (x : ℕ). told l m (some (logColumn l bk (e .id))) (getD (m .offsets) x (pos 0)) i) (zero-add i)

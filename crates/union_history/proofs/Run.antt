@@ -49,7 +49,7 @@ ext-cols : (cols : List LogColumn) (name : List ℕ) (kind : Kind) (at : Option 
 ext-cols cols name kind none = record { rest = record { name = name; kind = kind } ∷ []; is = refl }
 ext-cols cols name kind (some k) = ext-refl cols
 
--- ---- memory that holds a longer log holds each beginning of it: a snapshot reads the same after later appends
+-- ---- memory that holds a longer log holds each beginning of it: an array reads the same after later appends
 slotAt-append : (l : Layout) (es r : List Entry) (i : ℕ) → i < length es → ownSlot l (es ++ r) i ≡ ownSlot l es i
 slotAt-append Sparse es r i h = refl
 slotAt-append Dense es r i h =

@@ -1,5 +1,4 @@
 -- Any array: its questions, and slices of it.
--- questions 1 to 6, all answered yes
 use mathlib.Core.Bool.{Bool, _&&_, _||_, cond, false, not, true}
 use mathlib.Core.List.{List, [], _++_, _∷_, map}
 use mathlib.Core.Option.{Option, none, some}
@@ -29,6 +28,7 @@ use Rattle.union_history.specs.Claim.{Cut, Cuts, cut, cutBy, lastCount, 
 use Rattle.union_history.proofs.Yes.{and-both, and-l, and-r, then-rest, yes-last}
 use Rattle.union_history.proofs.Counts.{eqb-same}
 
+-- questions 1 to 6, all answered yes
 pub record Good (a : UnionArray) (lent : Amounts) : Type 0 where
   pub q1 : question1 a ≡ true
   pub q2 : question2 a ≡ true

@@ -72,7 +72,7 @@ module _ (l : Layout) (C K : ℕ) (lim : Limits C K) where
     abbrev st : State
     st = state l C K cols es cs m
 
-    -- the batch of an accepted snapshot or finish, read at the end
+    -- the array of an accepted finish_cloned or finish, read at the end
     array-told : (m₁ mF : Buffers) → (builderChecked (builderOf l C K cols es cs) (amountsOf m₁) ≡ 16) ⊎ Agree C K m m₁ → Final l C K m cols es mF
         → ArrayTold l mF (ifYes (builderChecked (builderOf l C K cols es cs) (amountsOf m₁)) (some (ifYes (builderChecked (builderOf l C K cols es cs) (amountsOf m₁)) (describe (builderOf l C K cols es cs) m₁) noArray)) none)
         (ifYes (finishRefusal (logOf C K cols es) (amountsOf m₁)) (some (logOf C K cols es)) none)
@@ -132,7 +132,7 @@ module _ (l : Layout) (C K : ℕ) (lim : Limits C K) where
     unfolding step logAfter
     next-len = stays l C K lim cols es cs m inv hold
 
-    -- a snapshot or a finish that leaves the builder: the memory is that lent, or as before
+    -- a finish_cloned, or a finish that leaves the builder: the memory is that lent, or as before
     still : (m₁ : Buffers) (n : ℕ) → (n ≡ 16) ⊎ Agree C K m m₁
         → Next l C K m cols es (record { builder = builderOf l C K cols es cs; buffers = ifYes n m₁ m }) (logOf C K cols es)
     still m₁ (suc n) r = stays l C K lim cols es cs m inv hold
