@@ -1,5 +1,5 @@
 use borrow.Author.Needs.{needs}
-use mathlib.Core.Path.{_≡_, sym, ap, _∙_, subst}
+use mathlib.Core.Path.{sym, ap, _∙_, subst}
 use Prim.Native.Nat.{ℕ, _-_, _≤_}
 use native.Mathlib.Nat.{mod-eq-of-lt, lt-of-lt-of-le}
 use lib.Pow.{pow-pos, pow-mono}
@@ -7,8 +7,6 @@ use lib.Bits.{bitAnd, and-mask}
 use Rattle.bitmap.proofs.Chunks.{one-shl}
 use Rattle.bitmap.proofs.low.Statement.{statement}
 use Rattle.bitmap.proofs.low.Tie as tie
-use Rattle.bitmap.proofs.low.Reads as reads
-use Rattle.bitmap.proofs.low.Lts as lts
 
 shl-result : tie.Need-shl-result
 shl-result c = search needs
