@@ -4,15 +4,14 @@ use mathlib.Core.List.{List, [], _∷_}
 use mathlib.Core.Logic.{_≢_}
 use mathlib.Core.Option.{Option, none, some}
 use mathlib.Core.Path.{_∙_, _≡_, ap, refl, sym}
-use Prim.Native.Nat.{_-_, _<_, _≤_, suc, zero, ℕ}
-use native.Mathlib.Nat.{le-of-suc-le-suc, not-suc-le-zero}
+use Prim.Native.Nat.{_-_, _<_, _≤_, ℕ}
 use native.Mathlib.Omega.{arith}
 use lib.Dec.{eqb, leb, ltb}
 use lib.IntN.{natAbs, negsuc, pos, ℤ}
 use lib.ListN.{length}
 use borrow.Author.Tests.{eqb-true, le-leb, leb-true, ltb-true, not-false, not-true}
 use Rattle.bitmap.specs.Bits.{bitAt, count, digit, wordsFor, written}
-use Rattle.bitmap.proofs.Counts.{count-none}
+use Rattle.bitmap.proofs.Counts.{count-none, count-zero, not-not}
 use Rattle.bitmap.proofs.Setting.{written-bit}
 use Rattle.bitmap.proofs.Tables.{every-all}
 use Rattle.bitmap.proofs.Words.{count-ext}
@@ -65,12 +64,6 @@ digit-zero : (b : Bool) → digit b ≡ 0 → b ≡ false
 digit-zero true e = absurd (omega arith)
 digit-zero false e = refl
 
-count-zero : (n : ℕ) (p : ℕ → Bool) (i : ℕ) → count n p ≡ 0 → i < n → p i ≡ false
-unfolding count
-count-zero zero p i e h = absurd (not-suc-le-zero h)
-count-zero (suc n) p zero e h = digit-zero (p zero) (omega arith)
-count-zero (suc n) p (suc i) e h = count-zero n (λ k. p (suc k)) i (omega arith) (le-of-suc-le-suc h)
-
 none-has : (p : Column → Bool) (cs : List Column) → howMany p cs ≡ 0 → all (λ c. not (p c)) cs ≡ true
 none-has p [] e = refl
 none-has p (c ∷ cs) e =
@@ -93,10 +86,6 @@ module _ (m : Buffers) (l : Layout) (cs : List Column) (n i : ℕ) (x z : ℤ) (
       go : (c : Option Column) → columnOf cs x ≡ c → byLayout l true (withinChild z c) ≡ true → nullIn c m (byLayout l i (natAbs z)) ≡ false
       go none e q = refl
       go (some c) e q = f c (byLayout l i (natAbs z)) (all-at p cs x c a e) (within-child l cs n i x z c s h q e)
-
-not-not : (a : Bool) → not (not a) ≡ a
-not-not true = refl
-not-not false = refl
 
 cheaper-route : (best : Choice) (may : Bool) (cost r : ℕ) → (best .route ≡ 0 → ⊥) → (r ≡ 0 → ⊥) → (cheaper best may cost r) .route ≡ 0 → ⊥
 cheaper-route best may cost r h k e = go (may && ltb cost (best .cost)) e
@@ -143,7 +132,7 @@ module _ (a : UnionArray) (m : Buffers) (g : Good a (amountsOf m)) (missing : �
       go true te true ue = absurd (omega (arith, leb-true 3 route te, eqb-true route 0 ue))
       go true te false ue =
           marks-with (not (eqb nulls 0)) route (written (a .count) (slotNull a m) out) (λ e i q. written-bit (a .count) (slotNull a m) out i q)
-          (λ e i q. count-zero (a .count) (slotNull a m) i (eqb-true nulls 0 (not-false (eqb nulls 0) e)) q)
+          (λ e i q. count-zero (a .count) (slotNull a m) (eqb-true nulls 0 (not-false (eqb nulls 0) e)) i q)
       go false te true ue = marks-with false route out (λ e. absurd (false≢true e)) (λ e. h (eqb-true route 0 ue))
       go false te false ue =
           marks-with true route (written (a .count) (slotNull a m) out) (λ e i q. written-bit (a .count) (slotNull a m) out i q) (λ e. absurd (false≢true (sym e)))
@@ -162,7 +151,7 @@ module _ (a : UnionArray) (m : Buffers) (g : Good a (amountsOf m)) (missing : �
   unfolding withNulls nullsIn
   nothing e =
       slot-free (λ c. not (hasNull m c)) (none-has (hasNull m) (inUse a) e)
-      (λ c t p w. count-zero (c .slots) (λ s. not (present c m s)) t (eqb-true (nullsIn c m) 0 (not-false (eqb (nullsIn c m) 0) (not-true (not (eqb (nullsIn c m) 0)) p))) w)
+      (λ c t p w. count-zero (c .slots) (λ s. not (present c m s)) (eqb-true (nullsIn c m) 0 (not-false (eqb (nullsIn c m) 0) (not-true (not (eqb (nullsIn c m) 0)) p))) t w)
 
   route-zero : (cost : ℕ) → routeOf a m cost ≡ 0 → (i : ℕ) → i < a .count → slotNull a m i ≡ false
   unfolding routeOf
