@@ -4,10 +4,6 @@ use Prim.Native.Nat.{ℕ, _-_, _*_, _%_, _^_}
 use Rattle.bitmap.proofs.Chunks.{chunk-whole, chunk-cut}
 use Rattle.bitmap.proofs.chunk.Statement.{statement}
 use Rattle.bitmap.proofs.chunk.Tie as tie
-use Rattle.bitmap.proofs.chunk.Reads as reads
-use Rattle.bitmap.proofs.chunk.Lts as lts
-use Rattle.bitmap.proofs.joined.Reads as joined-reads
-use Rattle.bitmap.proofs.low.Reads as low-reads
 
 mul-done : tie.Need-mul-done
 mul-done c = search needs

@@ -3,22 +3,16 @@ use native.Mathlib.Omega.{arith}
 use Rattle.bitmap.proofs.Counts.{clear-ones}
 use Rattle.bitmap.proofs.counted.Statement.{statement}
 use Rattle.bitmap.proofs.counted.Tie as tie
-use Rattle.bitmap.proofs.counted.Reads as reads
-use Rattle.bitmap.proofs.counted.Lts as lts
 
--- src/lib.rt:100:15
 cast-set : tie.Need-cast-set
 cast-set c = omega (arith, clear-ones (c .args .n) (c .args .word) (c .pre .1))
 
--- src/lib.rt:101:35
 sub-t6 : tie.Need-sub-t6
 sub-t6 c = omega (arith, clear-ones (c .args .n) (c .args .word) (c .pre .1))
 
--- src/lib.rt:101:24
 add-t7 : tie.Need-add-t7
 add-t7 c = search needs
 
--- src/lib.rt:96:1
 returns : tie.Need-returns
 returns c = let s = c .before in omega (arith, clear-ones (s .args .n) (s .args .word) (s .pre .1))
 

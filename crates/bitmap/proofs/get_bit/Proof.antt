@@ -8,26 +8,19 @@ use Rattle.bitmap.specs.Bits.{testBit}
 use Rattle.bitmap.proofs.Words.{bit-read}
 use Rattle.bitmap.proofs.get_bit.Statement.{statement}
 use Rattle.bitmap.proofs.get_bit.Tie as tie
-use Rattle.bitmap.proofs.get_bit.Reads as reads
-use Rattle.bitmap.proofs.get_bit.Lts as lts
 
--- src/lib.rt:42:12
 add-result : tie.Need-add-result
 add-result c = search needs
 
--- src/lib.rt:42:6
 mul-result : tie.Need-mul-result
 mul-result c = search needs
 
--- src/lib.rt:42:6
 shared-slice-read-result : tie.Need-shared-slice-read-result
 shared-slice-read-result c = search needs
 
--- src/lib.rt:42:6
 shr-result : tie.Need-shr-result
 shr-result c = search needs
 
--- src/lib.rt:38:1
 returns : tie.Need-returns
 unfolding testBit
 returns c =

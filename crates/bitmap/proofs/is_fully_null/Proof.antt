@@ -5,17 +5,13 @@ use lib.Dec.{eqb}
 use Rattle.bitmap.specs.Bits.{isFullyNull}
 use Rattle.bitmap.proofs.is_fully_null.Statement.{statement}
 use Rattle.bitmap.proofs.is_fully_null.Tie as tie
-use Rattle.bitmap.proofs.is_fully_null.Reads as reads
-use Rattle.bitmap.proofs.is_fully_null.Lts as lts
 
--- src/lib.rt:120:1
 returns : tie.Need-returns
 unfolding isFullyNull
 returns c =
     let a = c .before .args in
     sym (ap (λ (b : Bool). not b && eqb (a .nulls) (a .len)) (ne-eqb (a .len) 0 (c .if1 .taken)))
 
--- src/lib.rt:120:1
 returns-2 : tie.Need-returns-2
 unfolding isFullyNull
 returns-2 c =

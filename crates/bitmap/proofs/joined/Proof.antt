@@ -3,8 +3,6 @@ use Rattle.bitmap.proofs.Words.{join-bits}
 use Rattle.bitmap.proofs.Chunks.{join-even, join-last}
 use Rattle.bitmap.proofs.joined.Statement.{statement}
 use Rattle.bitmap.proofs.joined.Tie as tie
-use Rattle.bitmap.proofs.joined.Reads as reads
-use Rattle.bitmap.proofs.joined.Lts as lts
 
 mul-x : tie.Need-mul-x
 mul-x c = search needs

@@ -7,8 +7,6 @@ use lib.Bits.{bitAnd, and-mask}
 use Rattle.bitmap.proofs.Chunks.{one-shl}
 use Rattle.bitmap.proofs.low.Statement.{statement}
 use Rattle.bitmap.proofs.low.Tie as tie
-use Rattle.bitmap.proofs.low.Reads as reads
-use Rattle.bitmap.proofs.low.Lts as lts
 
 shl-result : tie.Need-shl-result
 shl-result c = search needs

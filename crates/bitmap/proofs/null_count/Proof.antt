@@ -1,18 +1,11 @@
 use borrow.Author.Needs.{needs}
-use mathlib.Core.Path.{_≡_, refl, sym, ap, ap₂, _∙_, subst}
-use Prim.Native.Nat.{ℕ, _+_, _-_, _*_, _^_, _<_, _≤_, min}
+use mathlib.Core.Path.{_≡_, sym, ap, _∙_}
+use Prim.Native.Nat.{_+_, _-_, _*_, _<_, _≤_, min}
 use native.Mathlib.Omega.{arith}
-use Rattle.bitmap.specs.Bits.{chunkOf, nullsOf}
-use Rattle.bitmap.specs.Counting.{clearIn}
-use Rattle.bitmap.proofs.Counts.{nulls-none, nulls-le, chunk-fits, chunk-clear}
+use Rattle.bitmap.specs.Bits.{nullsOf}
+use Rattle.bitmap.proofs.Counts.{nulls-none, nulls-le, chunk-fits, chunk-turn}
 use Rattle.bitmap.proofs.null_count.Statement.{statement}
 use Rattle.bitmap.proofs.null_count.Tie as tie
-use Rattle.bitmap.proofs.null_count.Reads as reads
-use Rattle.bitmap.proofs.null_count.Lts as lts
-use Rattle.bitmap.proofs.chunk.Reads as chunk-reads
-use Rattle.bitmap.proofs.counted.Reads as counted-reads
-use Rattle.bitmap.proofs.empty_count.Reads as empty-count-reads
-use Rattle.bitmap.proofs.span.Reads as span-reads
 
 abbrev Inv-loop : tie.InvT-loop
 Inv-loop words word bit len c₀ k₀ c k = (64 * k ≤ len + 63) × (c .nulls ≡ nullsOf words (64 * word + bit) (min (64 * k) len))
@@ -20,11 +13,9 @@ Inv-loop words word bit len c₀ k₀ c k = (64 * k ≤ len + 63) × (c .nulls �
 abbrev μ-loop : tie.MeasureT-loop
 μ-loop words word bit len c₀ k₀ c k = len + 64 - 64 * k
 
--- src/lib.rt:109:9
 empty-count-requires : tie.Need-empty-count-requires Inv-loop μ-loop
 empty-count-requires c κs = search needs
 
--- src/lib.rt:111:5
 loop-holds : tie.Need-loop-holds Inv-loop μ-loop
 loop-holds c =
     let a = c .before .before .args in
@@ -33,59 +24,47 @@ loop-holds c =
     none : min 0 (c .before .before .args .len) ≡ 0
     none = omega arith
 
--- src/lib.rt:111:11
 mul-loop : tie.Need-mul-loop Inv-loop μ-loop
 mul-loop c = omega arith
 
--- src/lib.rt:112:13
 chunk-requires : tie.Need-chunk-requires Inv-loop μ-loop
 chunk-requires c κs = search needs
 
--- src/lib.rt:113:38
 mul-span : tie.Need-mul-span Inv-loop μ-loop
 mul-span c = omega arith
 
--- src/lib.rt:113:32
 sub-span : tie.Need-sub-span Inv-loop μ-loop
 sub-span c = omega arith
 
--- src/lib.rt:113:27
 span-requires : tie.Need-span-requires Inv-loop μ-loop
 span-requires c κs = search needs
 
--- src/lib.rt:113:9
 counted-requires : tie.Need-counted-requires Inv-loop μ-loop
 counted-requires c κs =
     let a = c .before .before .before .before .before .before .args in
-    let l = c .before .before .before .loop in
-    let h : 64 * l .k < a .len = omega arith in (
+    let l = c .before .before .before .loop in (
       omega arith,
-      subst (λ (x : ℕ). x < 2 ^ c .span .result) (sym (c .before .chunk .ensures))
-          (subst (λ (n : ℕ). chunkOf (a .words .now) (64 * a .word + a .bit) (a .len) (l .k) < 2 ^ n) (sym (c .span .ensures))
-          (chunk-fits (a .words .now) (64 * a .word + a .bit) (a .len) (l .k) h)),
+      chunk-fits (a .words .now) (64 * a .word + a .bit) (a .len) (l .k) (c .before .chunk .result) (c .span .result) (c .before .chunk .ensures) (c .span .ensures),
       omega (arith, l .inv .1, nulls-le (a .words .now) (64 * a .word + a .bit) (min (64 * l .k) (a .len))),
     )
 
--- src/lib.rt:114:9
 add-k : tie.Need-add-k Inv-loop μ-loop
 add-k c = omega arith
 
--- src/lib.rt:111:5
 loop-less : tie.Need-loop-less Inv-loop μ-loop
 loop-less c = omega arith
 
--- src/lib.rt:111:5
 loop-again : tie.Need-loop-again Inv-loop μ-loop
 loop-again c =
     let a = c .before .before .before .before .before .before .before .args in
     let l = c .before .before .before .before .loop in
     let h : 64 * l .k < a .len = omega arith in (
       omega arith,
-      c .counted .ensures ∙ ap₂ (λ (x y : ℕ). x + y) (l .inv .1) (ap₂ clearIn (c .before .before .chunk .ensures) (c .before .span .ensures))
-          ∙ chunk-clear (a .words .now) (64 * a .word + a .bit) (a .len) (l .k) h,
+      c .counted .ensures
+      ∙ chunk-turn (a .words .now) (64 * a .word + a .bit) (a .len) (l .k) (l .c .nulls) (c .before .before .chunk .result) (c .before .span .result)
+      h (l .inv .1) (c .before .before .chunk .ensures) (c .before .span .ensures),
     )
 
--- src/lib.rt:105:1
 returns : tie.Need-returns Inv-loop μ-loop
 returns c =
     let a = c .before .before .before .before .args in

@@ -15,9 +15,6 @@ use Rattle.bitmap.proofs.OneBit.{none-yet, byte-digit, or-digit-here}
 use borrow.Author.Needs.{needs}
 use Rattle.bitmap.proofs.selection_mask.Statement.{statement}
 use Rattle.bitmap.proofs.selection_mask.Tie as tie
-use Rattle.bitmap.proofs.selection_mask.Reads as reads
-use Rattle.bitmap.proofs.selection_mask.Lts as lts
-use Rattle.bitmap.proofs.same_id.Reads as same-id-reads
 
 abbrev Inv-loop : tie.InvT-loop
 Inv-loop ids start n id mask₀ j₀ mask j = (j ≤ n) × (mask ≡ pack 64 (λ i. ltb i j && sameId (getD ids (start + i) (pos 0)) (toZ w8 id)))
@@ -25,39 +22,30 @@ Inv-loop ids start n id mask₀ j₀ mask j = (j ≤ n) × (mask ≡ pack 64 (λ
 abbrev μ-loop : tie.MeasureT-loop
 μ-loop ids start n id mask₀ j₀ mask j = n - j
 
--- src/lib.rt:143:5
 loop-holds : tie.Need-loop-holds Inv-loop μ-loop
 loop-holds c = (omega arith, none-yet 64 _)
 
--- src/lib.rt:144:30
 add-same-id : tie.Need-add-same-id Inv-loop μ-loop
 add-same-id c = omega arith
 
--- src/lib.rt:144:26
 shared-slice-copy-out-same-id : tie.Need-shared-slice-copy-out-same-id Inv-loop μ-loop
 shared-slice-copy-out-same-id c = omega arith
 
--- src/lib.rt:144:18
 same-id-requires : tie.Need-same-id-requires Inv-loop μ-loop
 same-id-requires c κs = search needs
 
--- src/lib.rt:144:18
 cast-mask : tie.Need-cast-mask Inv-loop μ-loop
 cast-mask c = tt
 
--- src/lib.rt:144:17
 shl-mask : tie.Need-shl-mask Inv-loop μ-loop
 shl-mask c = omega arith
 
--- src/lib.rt:145:9
 add-j : tie.Need-add-j Inv-loop μ-loop
 add-j c = omega arith
 
--- src/lib.rt:143:5
 loop-less : tie.Need-loop-less Inv-loop μ-loop
 loop-less c = search needs
 
--- src/lib.rt:143:5
 loop-again : tie.Need-loop-again Inv-loop μ-loop
 loop-again c =
     let a = c .before .before .before .before .args in
@@ -72,7 +60,6 @@ loop-again c =
           ∙ or-digit-here f (l .j) (f (l .j)) refl (omega arith),
     )
 
--- src/lib.rt:137:1
 returns : tie.Need-returns Inv-loop μ-loop
 unfolding selectionOf
 returns c =

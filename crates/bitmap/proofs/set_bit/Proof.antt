@@ -5,65 +5,49 @@ use Rattle.bitmap.specs.Bits.{setBit}
 use Rattle.bitmap.proofs.OneBit.{stored-set, stored-clear}
 use Rattle.bitmap.proofs.set_bit.Statement.{statement}
 use Rattle.bitmap.proofs.set_bit.Tie as tie
-use Rattle.bitmap.proofs.set_bit.Reads as reads
-use Rattle.bitmap.proofs.set_bit.Lts as lts
 
--- src/lib.rt:50:14
 add-at : tie.Need-add-at
 add-at c = search needs
 
--- src/lib.rt:51:15
 shl-one : tie.Need-shl-one
 shl-one c = search needs
 
--- src/lib.rt:53:21
 mul-words : tie.Need-mul-words
 mul-words c = search needs
 
--- src/lib.rt:53:21
 slice-read-words : tie.Need-slice-read-words
 slice-read-words c = search needs
 
--- src/lib.rt:53:9
 mul-words-2 : tie.Need-mul-words-2
 mul-words-2 c = search needs
 
--- src/lib.rt:53:9
 slice-write-words : tie.Need-slice-write-words
 slice-write-words c = search needs
 
--- src/lib.rt:55:21
 mul-words-3 : tie.Need-mul-words-3
 mul-words-3 c = search needs
 
--- src/lib.rt:55:21
 slice-read-words-2 : tie.Need-slice-read-words-2
 slice-read-words-2 c = search needs
 
--- src/lib.rt:55:9
 mul-words-4 : tie.Need-mul-words-4
 mul-words-4 c = search needs
 
--- src/lib.rt:55:9
 slice-write-words-2 : tie.Need-slice-write-words-2
 slice-write-words-2 c = search needs
 
--- src/lib.rt:46:1
 same-length : tie.Need-same-length
 same-length c = search needs
 
--- src/lib.rt:46:1
 returns : tie.Need-returns
 returns c =
     let a = c .before .before .args in
     stored-set (a .words .now) (a .word) (a .bit) (c .slice-known .given)
     ∙ ap (setBit (a .words .now) (64 * a .word + a .bit)) (sym (c .before .if1 .taken))
 
--- src/lib.rt:46:1
 same-length-2 : tie.Need-same-length-2
 same-length-2 c = search needs
 
--- src/lib.rt:46:1
 returns-2 : tie.Need-returns-2
 returns-2 c =
     let a = c .before .before .args in
