@@ -1,2 +1,5 @@
 -- Laws that belong to no one function.
+pub mod Accepted
 pub mod Present
+pub mod Values
+pub mod ChildSlots

@@ -6,3 +6,4 @@ pub mod Slots
 pub mod Questions
 pub mod Lookup
 pub mod Slices
+pub mod ChildSlot

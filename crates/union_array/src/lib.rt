@@ -1,5 +1,7 @@
 // The union array: a description by value over lent memory.
+pub mod lookup;
 pub mod presence;
+pub mod slices;
 
 // The kind of a column's values. One word holds one value, in its low bits.
 pub enum Kind {
@@ -110,4 +112,12 @@ pub struct Flag {
 pub struct Slice {
     pub array: UnionArray,
     pub refusal: u8,
+}
+
+// A slot's child, its slot in it and its type id.
+pub struct ChildSlot {
+    pub column: Column,
+    pub slot: usize,
+    pub refusal: u8,
+    pub id: i8,
 }
