@@ -79,12 +79,15 @@ seen-more cs c seen l h k b = by (c .id) refl
     none-more : (t : Bool) → t || false ≡ t
     none-more true = refl
     none-more false = refl
+
     last-yes : (t : Bool) → t || true ≡ true
     last-yes true = refl
     last-yes false = refl
+
     at : (n : ℕ) → n < length seen → (t : Bool) → eqb n k ≡ t → getD (set seen n true) k false ≡ isSome (columnOf cs (pos k)) || t
     at n l true e = rw (last-yes, ← eqb-true n k e) (getD-set-same seen n true false l)
     at n l false e = rw none-more (getD-set-other seen n k true false (λ q. eqb-false n k e (sym q)) ∙ h k b)
+
     by : (z : ℤ) → c .id ≡ z → getD (set seen (entryOf (c .id)) true) k false ≡ isSome (columnOf (cs ++ (c ∷ [])) (pos k))
     by (pos n) e = rw (named-more cs c (pos k), e) (at n (rw e at l) (eqb n k) refl)
     by (negsuc n) e = rw (named-more cs c (pos k), e) (at 255 (rw e at l) false (ne-eqb 255 k (λ q. omega arith)))
@@ -225,6 +228,10 @@ module _ (h : Head) (cs : List Column) (lent : Amounts) where
       (question2 a) (partIn (h .start) (h .count) (lent .ids)) (byLayout (h .layout) true (partIn (h .«offsets_start») (h .«offsets_count») (lent .offsets)))
       (leb (h .count) 65536) (byLayout (h .layout) true (eqb (h .«offsets_count») (h .count))))
 
+  pub asked-is : (dense : Bool) (k r : ℕ) → h .fields ≤ 128 → dense ≡ isDense (h .layout) → k ≡ columnsFault lent (h .count) dense (take (h .fields) cs)
+      → r ≡ firstNo k h lent → r ≡ asked a lent
+  asked-is dense k r l e p q = q ∙ rw (p, e) (asked-by l)
+
   pub asked-many : 128 < h .fields → asked a lent ≡ 1
   unfolding asked question1
   asked-many l = rw (lt-leb (h .fields) 128 l)
@@ -241,7 +248,7 @@ module _ (a : UnionArray) (lent : Amounts) (id : ℤ) where
         refused-is n (isSome (columnOf (inUse a) id)) false h,
       )
 
-  pub look-accepted : asked a lent ≡ 0
-      → record { column = orNone (columnOf (inUse a) id); refusal = 0; found = isSome (columnOf (inUse a) id) } ≡ lookOf a lent id
+  pub look-accepted : (p : Passed) (n : ℕ) (dense : Bool) → p ≡ passOf lent n dense id (inUse a) → asked a lent ≡ 0
+      → record { column = p .column; refusal = 0; found = p .found } ≡ lookOf a lent id
   unfolding lookOf
-  look-accepted e = rw e
+  look-accepted p n dense q e = rw (q, e)

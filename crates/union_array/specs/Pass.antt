@@ -81,8 +81,8 @@ firstNo k h lent =
     no 1 (not (eqb k 1))
     then no 2 (eqb (h .children) (h .fields))
     then no 3
-      (partIn (h .start) (h .count) (lent .ids)
-      && (byLayout (h .layout) true (partIn (h .«offsets_start») (h .«offsets_count») (lent .offsets)) && not (eqb k 3)))
+    (partIn (h .start) (h .count) (lent .ids)
+    && (byLayout (h .layout) true (partIn (h .«offsets_start») (h .«offsets_count») (lent .offsets)) && not (eqb k 3)))
     then no 4 (leb (h .count) 65536 && not (eqb k 4))
     then no 5 (byLayout (h .layout) true (eqb (h .«offsets_count») (h .count)))
     then no 6 (not (eqb k 6))

@@ -8,7 +8,14 @@ ghost use Rattle.union_array.specs.Types.{byLayout, noColumn};
 ghost use Rattle.union_array.specs.Questions.{validId, partIn, columnIn, asked};
 ghost use Rattle.union_array.specs.Look.{notLooked, lookOf};
 ghost use Rattle.union_array.specs.Pass.{isDense, headOf, arrayOf, entryOf, columnFault, leastOf, passOf, firstNo};
-use crate::{Amounts, Column, Head, Kind, Layout, Looked, Passed, UnionArray};
+use crate::Amounts;
+use crate::Column;
+use crate::Head;
+use crate::Kind;
+use crate::Layout;
+use crate::Looked;
+use crate::Passed;
+use crate::UnionArray;
 
 // A part lies in what is lent.
 pub fn part_in(start: usize, len: usize, lent: usize) -> bool
@@ -162,7 +169,14 @@ pub fn no_column() -> Column
 }
 
 // 1, 3, 4 and 6 of the first `fields` columns, of an array with n slots, and the column with an id.
-fn pass(columns: [Column; 128], fields: usize, lent: Amounts, n: usize, dense: bool, id: i8) -> Passed
+fn pass(
+    columns: [Column; 128],
+    fields: usize,
+    lent: Amounts,
+    n: usize,
+    dense: bool,
+    id: i8,
+) -> Passed
     requires { ⌜ fields ≤ 128 ⌝ }
     ensures { λ r. ⌜ r ≡ passOf lent n dense id (take fields columns) ⌝ }
 {

@@ -38,7 +38,10 @@ returns-3 c =
     let i = c .before .before .before in
     let h = i .before .before .before in
     rw (
-      le-leb (h .before .before .args .c .size) 32 (h .if1 .left), sym (i .before .part-in .ensures) ∙ not-false _ (i .if2 .left), sym (c .before .part-in2 .ensures) ∙ not-true _ (c .if3 .taken))
+      le-leb (h .before .before .args .c .size) 32 (h .if1 .left),
+      sym (i .before .part-in .ensures) ∙ not-false _ (i .if2 .left),
+      sym (c .before .part-in2 .ensures) ∙ not-true _ (c .if3 .taken),
+    )
 
 bits-in-requires : tie.Need-bits-in-requires
 bits-in-requires c κs = search needs
