@@ -1,3 +1,4 @@
+-- The loop counts the nulls of the bits before chunk k, at most len of them. Assumes nothing.
 use borrow.Author.Needs.{needs}
 use mathlib.Core.Path.{_≡_, sym, ap, _∙_}
 use Prim.Native.Nat.{_+_, _-_, _*_, _<_, _≤_, min}
@@ -61,8 +62,8 @@ loop-again c =
     let h : 64 * l .k < a .len = omega arith in (
       omega arith,
       c .counted .ensures
-      ∙ chunk-turn (a .words .now) (64 * a .word + a .bit) (a .len) (l .k) (l .c .nulls) (c .before .before .chunk .result) (c .before .span .result)
-      h (l .inv .1) (c .before .before .chunk .ensures) (c .before .span .ensures),
+          ∙ chunk-turn (a .words .now) (64 * a .word + a .bit) (a .len) (l .k) (l .c .nulls) (c .before .before .chunk .result) (c .before .span .result)
+          h (l .inv .1) (c .before .before .chunk .ensures) (c .before .span .ensures),
     )
 
 returns : tie.Need-returns Inv-loop μ-loop
