@@ -1,4 +1,8 @@
 -- Laws that belong to no one function.
+pub mod Tests
+pub mod Signed
+pub mod Columns
+pub mod OnePass
 pub mod Accepted
 pub mod Present
 pub mod Values
