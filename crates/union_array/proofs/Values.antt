@@ -10,8 +10,9 @@ use lib.ListN.{length, getD, set, take, drop, replicate, length-append, length-r
 use lib.Seq.{take-suc, set-at, length-take-le, take-append-add, take-all}
 use lib.IntN.{ℤ}
 use Rattle.union_array.specs.Types.{Kind, Int8, Int16, Int32, Int64, UInt8, UInt16, UInt32, UInt64, Float32, Float64, Column, widthOf, lowBits}
-use Rattle.union_array.specs.Buffers.{Buffers, buffersOf}
+use Rattle.union_array.specs.Buffers.{Buffers, buffersOf, amountsOf}
 use Rattle.union_array.specs.Slots.{present}
+use Rattle.union_array.specs.Questions.{columnIn}
 use Rattle.union_array.specs.Lookup.{Value, padded, columnValue}
 
 pub width-le : (k : Kind) → widthOf k ≤ 64
@@ -83,3 +84,7 @@ module _ (c : Column) (m : Buffers) (p : ℕ) where
 pub value-parts : (c : Column) (m : Buffers) (p : ℕ) → columnValue c (buffersOf [] [] (m .values) (m .masks) (m .names)) p ≡ columnValue c m p
 unfolding columnValue present
 value-parts c m p = refl
+
+pub column-parts : (c : Column) (m : Buffers) → columnIn (amountsOf (buffersOf [] [] (m .values) (m .masks) (m .names))) c ≡ columnIn (amountsOf m) c
+unfolding columnIn
+column-parts c m = refl

@@ -13,9 +13,22 @@ ghost use Rattle.union_array.specs.Slots.{all, nullsIn};
 ghost use Rattle.union_array.specs.Questions.{columnIn, maskIn, within};
 ghost use Rattle.union_array.specs.Lookup.{padded, columnValue, noValue, valueOf, typeIdOf, valueOffsetOf, childOf, typeNamesOf, isDenseOf, isNullableOf, typeIdsOf};
 ghost use Rattle.union_array.specs.ChildSlot.{noChildSlot, settled};
+use crate::Amounts;
+use crate::Child;
+use crate::ChildSlot;
+use crate::Column;
+use crate::Flag;
+use crate::Kind;
+use crate::Layout;
+use crate::Looked;
+use crate::NamePlace;
+use crate::TypeId;
+use crate::TypeNames;
+use crate::UnionArray;
+use crate::Value;
+use crate::ValueOffset;
 use crate::presence;
 use crate::questions;
-use crate::{Amounts, Child, ChildSlot, Column, Flag, Kind, Layout, Looked, NamePlace, TypeId, TypeNames, UnionArray, Value, ValueOffset};
 
 // The bits of a value of a kind.
 pub fn width(k: Kind) -> usize
@@ -219,7 +232,14 @@ impl UnionArray {
         let id = id_at(type_ids, self.start, i);
         let offset = offset_at(offsets, self.offsets_start, i);
         let layout = self.layout;
-        let s = settle(questions::look(self, lent, id), layout, self.count, i, id, offset);
+        let s = settle(
+            questions::look(self, lent, id),
+            layout,
+            self.count,
+            i,
+            id,
+            offset,
+        );
         if s.refusal != 0 {
             return no_value(s.refusal);
         }
@@ -249,7 +269,14 @@ impl UnionArray {
         let id = id_at(type_ids, self.start, i);
         let offset = offset_at(offsets, self.offsets_start, i);
         let layout = self.layout;
-        let s = settle(questions::look(self, lent, id), layout, self.count, i, id, offset);
+        let s = settle(
+            questions::look(self, lent, id),
+            layout,
+            self.count,
+            i,
+            id,
+            offset,
+        );
         TypeId {
             refusal: s.refusal,
             id: s.id,
@@ -278,7 +305,14 @@ impl UnionArray {
         let id = id_at(type_ids, self.start, i);
         let offset = offset_at(offsets, self.offsets_start, i);
         let layout = self.layout;
-        let s = settle(questions::look(self, lent, id), layout, self.count, i, id, offset);
+        let s = settle(
+            questions::look(self, lent, id),
+            layout,
+            self.count,
+            i,
+            id,
+            offset,
+        );
         ValueOffset {
             offset: s.slot,
             refusal: s.refusal,

@@ -25,7 +25,7 @@ found c =
     let x = c .before .before .before .id-at .result in
     let z = c .before .before .offset-at .result in
     found-is (s .args .self) (lent s) (s .args .i) (toZ w8 (ofZ w8 x)) (toZ w32 (ofZ w32 z)) (c .before .look .result) (c .settle .result)
-    (toZ-ofZ {w = w8} {z = x} (c .before .before .before .id-at .ok) ∙ c .before .before .before .id-at .ensures) (toZ-ofZ {w = w32} {z = z} (c .before .before .offset-at .ok) ∙ c .before .before .offset-at .ensures)
+    (toZ-ofZ {w = w8} {z = x} (record { sfits = c .before .before .before .id-at .ok }) ∙ c .before .before .before .id-at .ensures) (toZ-ofZ {w = w32} {z = z} (record { sfits = c .before .before .offset-at .ok }) ∙ c .before .before .offset-at .ensures)
     (c .before .look .ensures) (c .settle .ensures)
 
 id-at-requires : tie.Need-id-at-requires

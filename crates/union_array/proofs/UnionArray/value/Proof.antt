@@ -5,7 +5,7 @@ use mir.Facts.{toZ-ofZ}
 use Rattle.union_array.specs.Buffers.{Buffers, buffersOf, amountsOf}
 use Rattle.union_array.specs.ChildSlot.{childSlotOf}
 use Rattle.union_array.proofs.Accepted.{child-in, slot-in}
-use Rattle.union_array.proofs.Values.{value-parts}
+use Rattle.union_array.proofs.Values.{value-parts, column-parts}
 use Rattle.union_array.proofs.ChildSlots.{found-is, value-refused, value-is, column-is, slot-is, checked-is}
 use borrow.Author.Needs.{needs}
 use Rattle.union_array.proofs.UnionArray.value.Statement.{statement}
@@ -29,7 +29,7 @@ found c =
     let x = c .before .before .before .id-at .result in
     let z = c .before .before .offset-at .result in
     found-is (s .args .self) (lent s) (s .args .i) (toZ w8 (ofZ w8 x)) (toZ w32 (ofZ w32 z)) (c .before .look .result) (c .settle .result)
-    (toZ-ofZ {w = w8} {z = x} (c .before .before .before .id-at .ok) ∙ c .before .before .before .id-at .ensures) (toZ-ofZ {w = w32} {z = z} (c .before .before .offset-at .ok) ∙ c .before .before .offset-at .ensures)
+    (toZ-ofZ {w = w8} {z = x} (record { sfits = c .before .before .before .id-at .ok }) ∙ c .before .before .before .id-at .ensures) (toZ-ofZ {w = w32} {z = z} (record { sfits = c .before .before .offset-at .ok }) ∙ c .before .before .offset-at .ensures)
     (c .before .look .ensures) (c .settle .ensures)
 
 id-at-requires : tie.Need-id-at-requires
@@ -57,7 +57,7 @@ column-value-requires c κs =
     let z = c .before .if1 .left in
     let k = checked-is (s .args .self) (lent s) (s .args .i) t (found (c .before .before .before)) z in
     rw (column-is (s .args .self) (lent s) (s .args .i) t (found (c .before .before .before)) z, slot-is (s .args .self) (lent s) (s .args .i) t (found (c .before .before .before)) z)
-    (slot-in (s .args .self) (lent s) (s .args .i) k, ?)
+    (slot-in (s .args .self) (lent s) (s .args .i) k, column-parts _ (lent s) ∙ child-in (s .args .self) (lent s) (s .args .i) k)
 
 returns-2 : tie.Need-returns-2
 returns-2 c =
