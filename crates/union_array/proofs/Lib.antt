@@ -7,3 +7,4 @@ pub mod Accepted
 pub mod Present
 pub mod Values
 pub mod ChildSlots
+pub mod Lookups

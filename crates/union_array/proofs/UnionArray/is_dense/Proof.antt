@@ -1,3 +1,8 @@
+use mathlib.Core.Path.{_≡_, refl, sym, ap, _∙_}
+use mathlib.Core.Bool.{true, false}
+use Rattle.union_array.specs.Buffers.{Buffers, buffersOf, amountsOf}
+use Rattle.union_array.specs.Types.{Sparse, Dense}
+use Rattle.union_array.proofs.Lookups.{dense-refused, dense-is}
 use borrow.Author.Needs.{needs}
 use Rattle.union_array.proofs.UnionArray.is_dense.Statement.{statement}
 use Rattle.union_array.proofs.UnionArray.is_dense.Tie as tie
@@ -5,29 +10,26 @@ use Rattle.union_array.proofs.UnionArray.is_dense.Reads as reads
 use Rattle.union_array.proofs.UnionArray.is_dense.Lts as lts
 use Rattle.union_array.proofs.questions.ask.Reads as ask-reads
 
--- src/lookup.rt:345:13
+abbrev lent : tie.Start → Buffers
+lent s = let a = s .args in buffersOf (a .type-ids .now) (a .offsets .now) (a .values .now) (a .masks .now) (a .names .now)
+
 ask-requires : tie.Need-ask-requires
 ask-requires c κs = search needs
 
--- src/lookup.rt:347:13
 returns : tie.Need-returns
-returns c = ?
+returns c = let s = c .before .before .before .before .before in dense-refused (s .args .self) (lent s) (c .before .ask .result) (c .before .ask .ensures) (c .if1 .taken)
 
--- src/lookup.rt:354:31
 enum-told : tie.Need-enum-told
 enum-told c = search needs
 
--- src/lookup.rt:358:30
 enum-told-2 : tie.Need-enum-told-2
 enum-told-2 c = search needs
 
--- src/lookup.rt:328:5
 returns-2 : tie.Need-returns-2
-returns-2 c = ?
+returns-2 c = let s = c .before .before .before .before .before .before .before in dense-is (s .args .self) (lent s) (c .before .before .before .ask .result) Sparse (c .before .before .before .ask .ensures) (c .before .before .if1 .left) (c .enum-told .given .1)
 
--- src/lookup.rt:328:5
 returns-3 : tie.Need-returns-3
-returns-3 c = ?
+returns-3 c = let s = c .before .before .before .before .before .before .before in dense-is (s .args .self) (lent s) (c .before .before .before .ask .result) Dense (c .before .before .before .ask .ensures) (c .before .before .if1 .left) (c .enum-told2 .given .1)
 
 pub is-dense-spec : {M : Type 1} → statement M
 is-dense-spec = tie.close (tie.spec ask-requires returns enum-told enum-told-2 returns-2 returns-3)
