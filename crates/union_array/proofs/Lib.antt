@@ -8,3 +8,4 @@ pub mod Present
 pub mod Values
 pub mod ChildSlots
 pub mod Lookups
+pub mod Sliced

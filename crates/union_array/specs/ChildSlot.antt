@@ -1,5 +1,6 @@
 -- A slot's child and its slot in it: what the slot lookups share.
 use mathlib.Core.Bool.{Bool, true}
+use mathlib.Core.List.{List}
 use Prim.Native.Nat.{ℕ}
 use lib.Dec.{ltb}
 use lib.IntN.{ℤ, pos, natAbs}
@@ -8,7 +9,7 @@ use Rattle.union_array.specs.Buffers.{Buffers}
 use Rattle.union_array.specs.Refusal.{no, _then_, ifYes}
 use Rattle.union_array.specs.Slots.{typeIdAt, childAt, slotAt}
 use Rattle.union_array.specs.Questions.{within, slotChecked}
-use Rattle.union_array.specs.Lookup.{orNone}
+use Rattle.union_array.specs.Lookup.{Shown, orNone}
 use Rattle.union_array.specs.Look.{Looked}
 pub use Rattle.union_array.specs.declared.ChildSlot.{ChildSlot}
 
@@ -37,3 +38,7 @@ settled l layout n i id offset = record {
   refusal = settledNo l layout n i offset;
   id = ifYes (settledNo l layout n i offset) id (pos 0);
 }
+
+-- the refusal's number that a call leaves, beside the type ids that it shows
+abbrev pub shownAs : ℕ → List ℤ → Shown
+shownAs refusal ids = record { refusal = refusal; ids = ids }

@@ -9,3 +9,4 @@ pub mod Slices
 pub mod Look
 pub mod Pass
 pub mod ChildSlot
+pub mod Movable
