@@ -7,7 +7,7 @@ use native.Mathlib.Numerals.{add-one}
 use native.Mathlib.Omega.{arith}
 use borrow.Author.Tests.{eqb-true}
 use lib.Dec.{eqb}
-use lib.ListN.{length, getD, set, take, drop, take-append-drop}
+use lib.ListN.{length, getD, set, take, drop, replicate, take-append-drop}
 use Rattle.union_array.specs.Types.{Layout, Sparse, Dense, Column, UnionArray, Amounts, noColumn, noArray, byLayout}
 use Rattle.union_array.specs.Buffers.{Buffers, amountsOf}
 use Rattle.union_array.specs.Refusal.{no, _then_, ifYes}
@@ -65,8 +65,20 @@ module _ (a : UnionArray) (o n : ℕ) where
   kept [] = refl
   kept (c ∷ cs) = ap (λ (r : List Column). c ∷ r) (kept cs)
 
-  pub dense-kept : (j : ℕ) (cs : List Column) → cs ≡ mapTo (movedColumn Dense o n) noColumn j cs
-  dense-kept j cs = sym (ap (λ (l : List Column). l ++ drop j cs) (kept (take j cs)) ∙ take-append-drop j cs)
+  same-columns : (j : ℕ) (cs : List Column) → mapTo (movedColumn Dense o n) noColumn j cs ≡ cs
+  same-columns j cs = ap (λ (l : List Column). l ++ drop j cs) (kept (take j cs)) ∙ take-append-drop j cs
+
+  pub dense-is : a .layout ≡ Dense → _≡_ {A = UnionArray} (record {
+    columns = a .columns;
+    fields = a .fields;
+    children = a .children;
+    start = a .start + o;
+    count = n;
+    «offsets_start» = a .«offsets_start» + o;
+    «offsets_count» = n;
+    layout = a .layout;
+  }) (sliced a o n)
+  dense-is e = rw (same-columns (a .fields) (a .columns)) at (sliced-is Dense e)
 
   abbrev pub withColumn : UnionArray → ℕ → Column → UnionArray
   withColumn s j c = record {
@@ -124,3 +136,16 @@ movable a lent y full i f v k o l =
             mask = λ h. omega (arith, mask-fits c (lent .masks) (x .mask) h);
           };
     }
+
+-- the empty description, of an empty column
+pub empty-is : (c : Column) → c ≡ noColumn → _≡_ {A = UnionArray} (record {
+  columns = replicate 128 c;
+  fields = 0;
+  children = 0;
+  start = 0;
+  count = 0;
+  «offsets_start» = 0;
+  «offsets_count» = 0;
+  layout = Sparse;
+}) noArray
+empty-is c e = rw e

@@ -5,8 +5,12 @@ ghost use Rattle.union_array.specs.Types.{Sparse, noArray};
 ghost use Rattle.union_array.specs.Buffers.{buffersOf};
 ghost use Rattle.union_array.specs.Slices.{movedColumn, sliced, sliceOf};
 ghost use Rattle.union_array.specs.Movable.{Movable, ColumnMovable, noSlice};
+use crate::Amounts;
+use crate::Column;
+use crate::Layout;
+use crate::Slice;
+use crate::UnionArray;
 use crate::questions;
-use crate::{Amounts, Column, Layout, Slice, UnionArray};
 
 // A sparse array's child, its words and mask bits moved by o, with n slots.
 fn move_column(c: Column, o: usize, n: usize) -> Column

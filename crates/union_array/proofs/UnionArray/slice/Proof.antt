@@ -1,3 +1,12 @@
+use mathlib.Core.Path.{_≡_, refl, sym, ap, _∙_}
+use mathlib.Core.Bool.{Bool, true, false}
+use Prim.Native.Nat.{ℕ, _+_, _≤_}
+use native.Mathlib.Omega.{arith}
+use borrow.Author.Tests.{leb-true, not-true, not-false}
+use lib.ListN.{length, length-map}
+use Rattle.union_array.specs.Buffers.{Buffers, buffersOf, amountsOf}
+use Rattle.union_array.proofs.Accepted.{accepted}
+use Rattle.union_array.proofs.Sliced.{slice-refused, slice-is, movable}
 use borrow.Author.Needs.{needs}
 use Rattle.union_array.proofs.UnionArray.slice.Statement.{statement}
 use Rattle.union_array.proofs.UnionArray.slice.Tie as tie
@@ -8,37 +17,44 @@ use Rattle.union_array.proofs.questions.part_in.Reads as part-in-reads
 use Rattle.union_array.proofs.slices.cut.Reads as cut-reads
 use Rattle.union_array.proofs.slices.no_slice.Reads as no-slice-reads
 
--- src/slices.rt:102:13
+abbrev lent : tie.Start → Buffers
+lent s = let a = s .args in buffersOf (a .type-ids .now) (a .offsets .now) (a .values .now) (a .masks .now) (a .names .now)
+
 ask-requires : tie.Need-ask-requires
 ask-requires c κs = search needs
 
--- src/slices.rt:104:13
 no-slice-requires : tie.Need-no-slice-requires
 no-slice-requires c κs = search needs
 
--- src/slices.rt:104:13
 returns : tie.Need-returns
-returns c = ?
+returns c = let s = c .before .before .before .before .before .before in c .no-slice .ensures ∙ slice-refused (s .args .self) (lent s) (s .args .o) (s .args .n) (c .before .before .ask .result) (c .before .before .ask .ensures) (c .before .if1 .taken)
 
--- src/slices.rt:106:13
 part-in-requires : tie.Need-part-in-requires
 part-in-requires c κs = search needs
 
--- src/slices.rt:107:13
 no-slice-requires-2 : tie.Need-no-slice-requires-2
 no-slice-requires-2 c κs = search needs
 
--- src/slices.rt:107:13
 returns-2 : tie.Need-returns-2
-returns-2 c = ?
+returns-2 c =
+    let s = c .before .before .before .before .before .before .before .before in
+    c .no-slice2 .ensures
+    ∙ slice-is (s .args .self) (lent s) (s .args .o) (s .args .n) (c .before .before .before .before .ask .result) false (c .before .before .before .before .ask .ensures) (c .before .before .before .if1 .left) (sym (not-true _ (c .before .if2 .taken)) ∙ c .before .before .part-in .ensures)
 
--- src/slices.rt:109:13
 cut-requires : tie.Need-cut-requires
-cut-requires c κs = ?
+cut-requires c κs =
+    let s = c .before .before .before .before .before .before .before in
+    let a = s .args .self in
+    let l : s .args .o + s .args .n ≤ a .count = leb-true _ _ (sym (c .before .part-in .ensures) ∙ not-false _ (c .if2 .left)) in
+    let y = accepted a (amountsOf (lent s)) (sym (c .before .before .before .ask .ensures) ∙ c .before .before .if1 .left) in
+    let w = y .count in
+    let full : length (a .columns) ≡ 128 = sym (length-map (a .columns) _) ∙ s .good .0 .1 .1 .0 .1 .0 .1 in
+    (movable a (amountsOf (lent s)) y full (omega (arith, s .good)) (omega (arith, s .good)) (omega (arith, s .good)) (omega (arith, s .good)) (s .args .o) (omega arith), omega arith)
 
--- src/slices.rt:83:5
 returns-3 : tie.Need-returns-3
-returns-3 c = ?
+returns-3 c =
+    let s = c .before .before .before .before .before .before .before .before in
+    rw (c .cut .ensures) (slice-is (s .args .self) (lent s) (s .args .o) (s .args .n) (c .before .before .before .before .ask .result) true (c .before .before .before .before .ask .ensures) (c .before .before .before .if1 .left) (sym (not-false _ (c .before .if2 .left)) ∙ c .before .before .part-in .ensures))
 
 pub slice-spec : {M : Type 1} → statement M
 slice-spec =

@@ -1,3 +1,10 @@
+use borrow.Author.Needs.{needs}
+use mathlib.Core.Path.{_≡_, refl, sym, ap, _∙_}
+use Prim.Native.Nat.{ℕ, _+_, _-_, _≤_, _<_}
+use native.Mathlib.Omega.{arith}
+use lib.ListN.{length, getD}
+use Rattle.union_array.specs.Types.{Sparse, Dense, UnionArray}
+use Rattle.union_array.proofs.Sliced.{slicedTo, sliced-is, dense-is, column-at, one-more}
 use Rattle.union_array.proofs.slices.cut.Statement.{statement}
 use Rattle.union_array.proofs.slices.cut.Tie as tie
 use Rattle.union_array.proofs.slices.cut.Reads as reads
@@ -5,70 +12,68 @@ use Rattle.union_array.proofs.slices.cut.Lts as lts
 use Rattle.union_array.proofs.slices.move_column.Reads as move-column-reads
 
 abbrev Inv-loop : tie.InvT-loop
-Inv-loop a o n s₀ j₀ s j = ?
+Inv-loop a o n s₀ j₀ s j = (j ≤ a .fields) × (s ≡ slicedTo a o n Sparse j)
 
 abbrev μ-loop : tie.MeasureT-loop
-μ-loop a o n s₀ j₀ s j = ?
+μ-loop a o n s₀ j₀ s j = a .fields - j
 
--- src/slices.rt:33:15
 add-s : tie.Need-add-s Inv-loop μ-loop
-add-s c = ?
+add-s c = search needs
 
--- src/slices.rt:38:31
 enum-told : tie.Need-enum-told Inv-loop μ-loop
-enum-told c = ?
+enum-told c = search needs
 
--- src/slices.rt:38:31
 add-s-2 : tie.Need-add-s-2 Inv-loop μ-loop
-add-s-2 c = ?
+add-s-2 c = omega (arith, c .before .before .before .before .pre .0 .offsets (c .before .enum-told .given .1))
 
--- src/slices.rt:42:17
 enum-told-2 : tie.Need-enum-told-2 Inv-loop μ-loop
-enum-told-2 c = ?
+enum-told-2 c = search needs
 
--- src/slices.rt:43:13
 loop-holds : tie.Need-loop-holds Inv-loop μ-loop
-loop-holds c = ?
+loop-holds c = search needs
 
--- src/slices.rt:44:25
 mul-c : tie.Need-mul-c Inv-loop μ-loop
-mul-c c = ?
+mul-c c = search needs
 
--- src/slices.rt:44:25
 element-copy-out-c : tie.Need-element-copy-out-c Inv-loop μ-loop
-element-copy-out-c c = ?
+element-copy-out-c c = search needs
 
--- src/slices.rt:45:32
 move-column-requires : tie.Need-move-column-requires Inv-loop μ-loop
-move-column-requires c κs = ?
+move-column-requires c κs =
+    let l = c .before .before .before in
+    let t = c .before .before .before .before .before .before .before in
+    rw (column-at (t .args .a) (t .args .o) (t .args .n) (l .loop .s) (l .loop .j) (l .loop .inv .1))
+    (t .pre .0 .columns (l .before .enum-told2 .given .1) (l .loop .j) (omega arith), t .pre .1)
 
--- src/slices.rt:45:17
 mul-t11 : tie.Need-mul-t11 Inv-loop μ-loop
-mul-t11 c = ?
+mul-t11 c = search needs
 
--- src/slices.rt:45:17
 element-set-from-s : tie.Need-element-set-from-s Inv-loop μ-loop
-element-set-from-s c = ?
+element-set-from-s c = search needs
 
--- src/slices.rt:46:17
 add-j : tie.Need-add-j Inv-loop μ-loop
-add-j c = ?
+add-j c = search needs
 
--- src/slices.rt:43:13
 loop-less : tie.Need-loop-less Inv-loop μ-loop
-loop-less c = ?
+loop-less c = search needs
 
--- src/slices.rt:43:13
 loop-again : tie.Need-loop-again Inv-loop μ-loop
-loop-again c = ?
+loop-again c =
+    let l = c .before .before .before .before in
+    let t = c .before .before .before .before .before .before .before .before in
+    (search needs, one-more (t .args .a) (t .args .o) (t .args .n) (l .loop .s) (l .loop .j) (c .move-column .result) (l .loop .inv .1) (c .move-column .ensures))
 
--- src/slices.rt:28:1
 returns : tie.Need-returns Inv-loop μ-loop
-returns c = ?
+returns c =
+    let t = c .before .before .before .before in
+    dense-is (t .args .a) (t .args .o) (t .args .n) (c .before .enum-told .given .1)
 
--- src/slices.rt:28:1
 returns-2 : tie.Need-returns-2 Inv-loop μ-loop
-returns-2 c = ?
+returns-2 c =
+    let l = c .before .before in
+    let t = c .before .before .before .before .before .before in
+    let e : l .loop .j ≡ t .args .a .fields = omega arith in
+    rw e at (l .loop .inv .1) ∙ sliced-is (t .args .a) (t .args .o) (t .args .n) Sparse (l .before .enum-told2 .given .1)
 
 pub cut-spec : {M : Type 1} → statement M
 cut-spec =

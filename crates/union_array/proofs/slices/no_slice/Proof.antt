@@ -5,13 +5,11 @@ use Rattle.union_array.proofs.slices.no_slice.Reads as reads
 use Rattle.union_array.proofs.slices.no_slice.Lts as lts
 use Rattle.union_array.proofs.slices.no_array.Reads as no-array-reads
 
--- src/slices.rt:74:9
 no-array-requires : tie.Need-no-array-requires
 no-array-requires c κs = search needs
 
--- src/slices.rt:71:1
 returns : tie.Need-returns
-returns c = ?
+returns c = rw (c .no-array .ensures)
 
 pub no-slice-spec : {M : Type 1} → statement M
 no-slice-spec = tie.close (tie.spec no-array-requires returns)
