@@ -3,3 +3,4 @@ pub mod Tests
 pub mod Signed
 pub mod Columns
 pub mod OnePass
+pub mod Accepted
