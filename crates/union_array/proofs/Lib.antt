@@ -4,3 +4,4 @@ pub mod Signed
 pub mod Columns
 pub mod OnePass
 pub mod Accepted
+pub mod SlotTable

@@ -8,3 +8,4 @@ pub mod Lookup
 pub mod Slices
 pub mod Look
 pub mod Pass
+pub mod Check
