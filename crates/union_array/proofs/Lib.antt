@@ -5,3 +5,4 @@ pub mod Columns
 pub mod OnePass
 pub mod Accepted
 pub mod SlotTable
+pub mod Checked

@@ -33,7 +33,7 @@ table-turn cs f j t entry a b l e p =
     let u = length-take-le f cs l in
     let s : suc (j - 1) ≡ j = omega arith in
     let d : drop (j - 1) (take f cs) ≡ getD cs (j - 1) noColumn ∷ drop j (take f cs)
-        = drop-cons (take f cs) (j - 1) noColumn (omega arith) ∙ rw (s, getD-take f cs (j - 1) noColumn (omega arith)) in
+    = drop-cons (take f cs) (j - 1) noColumn (omega arith) ∙ rw (s, getD-take f cs (j - 1) noColumn (omega arith)) in
     rw (e, p, d)
 
 -- before the first store

@@ -10,8 +10,12 @@ ghost use Rattle.union_array.specs.Slots.{offsetAt, childAt};
 ghost use Rattle.union_array.specs.Questions.{within, withinChild, question7, checked};
 ghost use Rattle.union_array.specs.Lookup.{tryNewOf};
 ghost use Rattle.union_array.specs.Check.{onlySlots, Readable, slotTable, slotsChecked};
-use crate::questions::{ask, entry_of};
-use crate::{Amounts, Column, Layout, UnionArray};
+use crate::Amounts;
+use crate::Column;
+use crate::Layout;
+use crate::UnionArray;
+use crate::questions::ask;
+use crate::questions::entry_of;
 
 // An offset is at least 0 and below n.
 pub fn is_within(x: i32, n: u32) -> bool

@@ -94,10 +94,12 @@ slots-again c =
     let s = l .before .before .before in
     let a = s .before .args .t1 in
     let m = onlySlots (s .before .args .type-ids .now) [] in
-    let full : length (a .columns) ≡ 128 = sym (length-map (a .columns) _) ∙ s .before .good .0 .1 .1 .0 .1 .0 .1 in
-    (search needs, search needs,
+    let full : length (a .columns) ≡ 128 = sym (length-map (a .columns) _) ∙ s .before .good .0 .1 .1 .0 .1 .0 .1 in (
+      search needs,
+      search needs,
       every-more (s .slots .i) (namedAt a m)
-      ∙ rw (s .slots .inv .2) (named-at (a .fields) (a .columns) (typeIdAt a m (s .slots .i)) (l .loop .j) (omega arith) (omega arith) (sym (told (c .before)) ∙ c .if2 .taken)))
+          ∙ rw (s .slots .inv .2) (named-at (a .fields) (a .columns) (typeIdAt a m (s .slots .i)) (l .loop .j) (omega arith) (omega arith) (sym (told (c .before)) ∙ c .if2 .taken)),
+    )
 
 returns : tie.Need-returns Inv-loop μ-loop Inv-slots μ-slots
 unfolding question7

@@ -105,9 +105,11 @@ loop-less c = search needs
 loop-again : tie.Need-loop-again Inv-loop μ-loop
 loop-again c =
     let l = c .before .before .before .before .before .before .before .before .before in
-    let a = l .before .before .before .args in
-    (search needs, search needs,
-      every-more (l .loop .i) (fits (a .a) (a .type-ids .now) (a .offsets .now)) ∙ rw (l .loop .inv .2) (sym (told (c .before)) ∙ not-false _ (c .if2 .left)))
+    let a = l .before .before .before .args in (
+      search needs,
+      search needs,
+      every-more (l .loop .i) (fits (a .a) (a .type-ids .now) (a .offsets .now)) ∙ rw (l .loop .inv .2) (sym (told (c .before)) ∙ not-false _ (c .if2 .left)),
+    )
 
 returns-2 : tie.Need-returns-2 Inv-loop μ-loop
 returns-2 c =

@@ -52,10 +52,12 @@ loop-again c =
     let st = l .before in
     let cs = st .args .t1 in
     let full : length cs ≡ 128 = st .good .0 .1 .0 .1 in
-    let e = id-read (getD cs (l .loop .j - 1) noColumn .id) (c .before .struct-told .given .1 .1 .1 .1 .1 .1 .0 .1) in
-    (search needs, search needs,
+    let e = id-read (getD cs (l .loop .j - 1) noColumn .id) (c .before .struct-told .given .1 .1 .1 .1 .1 .1 .0 .1) in (
+      search needs,
+      search needs,
       table-turn cs (st .args .fields) (l .loop .j) (l .loop .table) (c .entry-of .result) (c .before .before .before .loop-test .taken) (l .loop .inv .0) (omega arith) (l .loop .inv .2)
-      (rw e at (c .entry-of .ensures .0)))
+          (rw e at (c .entry-of .ensures .0)),
+    )
 
 returns : tie.Need-returns Inv-loop μ-loop
 returns c =
