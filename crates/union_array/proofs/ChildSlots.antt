@@ -11,13 +11,14 @@ use lib.Signed.{ltZ, nonNeg}
 use Rattle.union_array.specs.Types.{Layout, Sparse, Dense, Column, UnionArray, noColumn, byLayout}
 use Rattle.union_array.specs.Buffers.{Buffers, amountsOf}
 use Rattle.union_array.specs.Refusal.{no, _then_, ifYes}
-use Rattle.union_array.specs.Slots.{isSome, typeIdAt, offsetAt, childAt, slotAt}
-use Rattle.union_array.specs.Questions.{within, withinChild, asked, slotChecked}
+use Rattle.union_array.specs.Slots.{inUse, isSome, typeIdAt, offsetAt, childAt, slotAt}
+use Rattle.union_array.specs.Questions.{within, withinChild, columnIn, asked, slotChecked}
 use Rattle.union_array.specs.Lookup.{orNone, noValue, valueIn, columnValue, valueOf, typeIdOf, valueOffsetOf}
 use Rattle.union_array.specs.Look.{Looked, lookOf}
 use Rattle.union_array.specs.ChildSlot.{ChildSlot, childSlotOf, noChildSlot, settledNo, settled}
 use Rattle.union_array.proofs.Tests.{then-left, refused-is}
-use Rattle.union_array.proofs.Accepted.{is-child}
+use Rattle.union_array.proofs.Accepted.{Accepted, SlotAccepted, child-is, slot-accepted, slot-in}
+use Rattle.union_array.proofs.Columns.{all-found}
 
 -- ---- an offset that is within
 
@@ -129,6 +130,17 @@ module _ (a : UnionArray) (m : Buffers) (i : ℕ) where
       unfolding childSlotOf
       slot-is = rw (e, checked-is)
 
+      accepts : Accepted a (amountsOf m) × SlotAccepted a m i
+      accepts = slot-accepted a m i checked-is
+
+      -- its child's parts lie in lent memory, and the slot is one of the child's
+      pub child-in : columnIn (amountsOf m) (s .column) ≡ true
+      child-in =
+          rw column-is (all-found (columnIn (amountsOf m)) (inUse a) (typeIdAt a m i) (orNone (childAt a m i)) (accepts .0 .parts) (child-is a m (accepts .0) i (accepts .1)))
+
+      pub slot-within : s .slot < s .column .slots
+      slot-within = rw (column-is, slot-is) (slot-in a m (accepts .0) i (accepts .1))
+
       pub value-is : columnValue (s .column) m (s .slot) ≡ valueOf a m i
       unfolding valueOf
-      value-is = rw (column-is, slot-is, checked-is) (sym (ap (λ (o : Option Column). valueIn o m (slotAt a m i)) (is-child a m i checked-is)))
+      value-is = rw (column-is, slot-is, checked-is) (sym (ap (λ (o : Option Column). valueIn o m (slotAt a m i)) (child-is a m (accepts .0) i (accepts .1))))

@@ -3,10 +3,12 @@ use mathlib.Core.Bool.{Bool, true, false, cond, not, _&&_, _||_, false≢true}
 use mathlib.Core.Option.{Option, none, some}
 use mathlib.Core.List.{List, [], _∷_, _++_}
 use mathlib.Core.Path.{_≡_, refl, sym, ap, _∙_}
-use Prim.Native.Nat.{ℕ, zero, suc, _<_, _≤_}
+use Prim.Native.Nat.{ℕ, zero, suc, _+_, _<_, _≤_}
 use native.Mathlib.Nat.{not-suc-le-zero, le-of-suc-le-suc}
+use native.Mathlib.Numerals.{add-one}
 use lib.IntN.{ℤ}
 use lib.ListN.{length, getD, take}
+use lib.Seq.{take-suc}
 use Rattle.bitmap.specs.Bits.{sameId}
 use Rattle.bitmap.proofs.Ids.{sameId-sym, sameId-eq, sameId-refl}
 use Rattle.bitmap.proofs.Tables.{both}
@@ -106,3 +108,27 @@ found-id (d ∷ cs) id c e = by (sameId (d .id) id) refl (found-id cs id c) e
     by : (b : Bool) → sameId (d .id) id ≡ b → (columnOf cs id ≡ some c → c .id ≡ id) → cond b (some d) (columnOf cs id) ≡ some c → c .id ≡ id
     by true s f e = sym (ap (λ (o : Option Column). orNone o .id) e) ∙ sameId-eq (d .id) id s
     by false s f e = f e
+
+-- ---- a search for an id
+
+pub take-more : (cs : List Column) (j : ℕ) → j < length cs → take (j + 1) cs ≡ take j cs ++ (getD cs j noColumn ∷ [])
+take-more cs j h = rw add-one (take-suc cs j noColumn h)
+
+-- no column passed has it
+pub unnamed-turn : (cs : List Column) (id : ℤ) (j : ℕ) → j < length cs → isSome (columnOf (take j cs) id) ≡ false → sameId (getD cs j noColumn .id) id ≡ false
+    → isSome (columnOf (take (j + 1) cs) id) ≡ false
+unnamed-turn cs id j l h e = rw (take-more cs j l, named-more (take j cs) (getD cs j noColumn) id, h, e)
+
+-- a column has it
+pub named-at : (n : ℕ) (cs : List Column) (id : ℤ) (j : ℕ) → j < n → j < length cs → sameId (getD cs j noColumn .id) id ≡ true
+    → isSome (columnOf (take n cs) id) ≡ true
+named-at zero cs id j l k e = absurd (not-suc-le-zero l)
+named-at (suc n) [] id j l k e = absurd (not-suc-le-zero k)
+named-at (suc n) (c ∷ cs) id zero l k e = rw e
+named-at (suc n) (c ∷ cs) id (suc j) l k e =
+    cond-is-some (sameId (c .id) id) c (columnOf (take n cs) id)
+    ∙ rw (named-at n cs id j (le-of-suc-le-suc l) (le-of-suc-le-suc k) e) (by (sameId (c .id) id))
+  where
+    by : (b : Bool) → b || true ≡ true
+    by true = refl
+    by false = refl

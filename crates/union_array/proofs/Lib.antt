@@ -4,6 +4,8 @@ pub mod Signed
 pub mod Columns
 pub mod OnePass
 pub mod Accepted
+pub mod SlotTable
+pub mod Checked
 pub mod Present
 pub mod Values
 pub mod ChildSlots

@@ -20,9 +20,9 @@ use Rattle.union_array.specs.Lookup.{Child, Flag, TypeNames, NamePlace, 
 use Rattle.union_array.specs.Look.{Looked, lookOf}
 use Rattle.union_array.specs.ChildSlot.{shownAs}
 use Rattle.union_array.proofs.Tests.{refused-is}
-use Rattle.union_array.proofs.Accepted.{accepted, inside}
-use Rattle.union_array.proofs.Values.{fill-more}
-use Rattle.union_array.proofs.Columns.{all-more, all-at}
+use Rattle.union_array.proofs.Accepted.{accepted}
+use Rattle.union_array.proofs.Values.{fill-more, inside}
+use Rattle.union_array.proofs.Columns.{all-more, all-at, take-more}
 
 module _ (a : UnionArray) (m : Buffers) where
   -- ---- child
@@ -80,7 +80,7 @@ module _ (a : UnionArray) (m : Buffers) where
   nullable-is r b e z f = rw (f, ← e, z)
 
   pub masks-in : asked a (amountsOf m) ≡ 0 → all (λ c. maskIn c (length (m .masks))) (inUse a) ≡ true
-  masks-in h = weaken (inUse a) (accepted a (amountsOf m) h .columns)
+  masks-in h = weaken (inUse a) (accepted a (amountsOf m) h .parts)
     where
       weaken : (cs : List Column) → all (columnIn (amountsOf m)) cs ≡ true → all (λ c. maskIn c (length (m .masks))) cs ≡ true
       weaken [] e = refl
@@ -114,7 +114,7 @@ module _ (a : UnionArray) (m : Buffers) where
 
 pub all-turn : (p : Column → Bool) (cs : List Column) (j : ℕ) → j < length cs → all p (take j cs) ≡ true → p (getD cs j noColumn) ≡ true
     → all p (take (j + 1) cs) ≡ true
-all-turn p cs j h e f = rw (add-one, take-suc cs j noColumn h, all-more p (take j cs) (getD cs j noColumn), e, f)
+all-turn p cs j h e f = rw (take-more cs j h, all-more p (take j cs) (getD cs j noColumn), e, f)
 
 pub all-fails : (p : Column → Bool) (cs : List Column) (n j : ℕ) → j < n → j < length cs → p (getD cs j noColumn) ≡ false → all p (take n cs) ≡ false
 all-fails p cs n j h k f = by (all p (take n cs)) refl

@@ -5,12 +5,11 @@ use mathlib.Core.List.{List, [], _∷_, _++_}
 use mathlib.Core.Path.{_≡_, refl, sym, ap, _∙_}
 use Prim.Native.Nat.{ℕ, zero, suc, _+_, _≤_, _<_}
 use native.Mathlib.Nat.{not-le-of-lt}
-use native.Mathlib.Numerals.{add-one}
 use native.Mathlib.Omega.{arith}
 use lib.Dec.{eqb, ltb, leb}
 use lib.IntN.{ℤ, pos, negsuc}
 use lib.ListN.{getD, set, length, take, replicate}
-use lib.Seq.{take-suc, getD-set-same, getD-set-other}
+use lib.Seq.{getD-set-same, getD-set-other}
 use borrow.Author.Tests.{lt-ltb, le-ltb, le-leb, lt-leb, eq-eqb, ne-eqb, eqb-true, eqb-false, ltb-true}
 use Rattle.bitmap.specs.Bits.{sameId}
 use Rattle.union_array.specs.Types.{Layout, Sparse, Dense, Column, UnionArray, Amounts, noColumn, byLayout}
@@ -21,7 +20,7 @@ use Rattle.union_array.specs.Lookup.{orNone}
 use Rattle.union_array.specs.Look.{Looked, notLooked, lookOf}
 use Rattle.union_array.specs.Pass.{Head, Passed, isDense, arrayOf, entryOf, faultOf, columnFault, columnsFault, leastOf, passOf, firstNo}
 use Rattle.union_array.proofs.Tests.{refused-is}
-use Rattle.union_array.proofs.Columns.{orElse, all-more, column-more, named-more, distinct-more}
+use Rattle.union_array.proofs.Columns.{orElse, take-more, all-more, column-more, named-more, distinct-more}
 
 least-fault : (a b c d a′ b′ c′ d′ : Bool) → leastOf (faultOf a b c d) (faultOf a′ b′ c′ d′) ≡ faultOf (a && a′) (b && b′) (c && c′) (d && d′)
 least-fault false b c d false b′ c′ d′ = refl
@@ -103,9 +102,6 @@ again-is cs seen (pos n) h = by (ltb n 128) refl
 again-is cs seen (negsuc n) h = refl
 
 -- ---- a column more
-
-pub take-more : (cs : List Column) (j : ℕ) → j < length cs → take (j + 1) cs ≡ take j cs ++ (getD cs j noColumn ∷ [])
-take-more cs j h = rw add-one (take-suc cs j noColumn h)
 
 module _ (lent : Amounts) (n : ℕ) (dense : Bool) (cs : List Column) (c : Column) where
   pub fault-more : (again : Bool) → validId (c .id) && not again ≡ validId (c .id) && not (isSome (columnOf cs (c .id)))

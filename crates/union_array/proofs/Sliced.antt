@@ -5,20 +5,16 @@ use mathlib.Core.List.{List, [], _∷_, _++_, map}
 use Prim.Native.Nat.{ℕ, zero, suc, _+_, _-_, _*_, _^_, _≤_, _<_}
 use native.Mathlib.Numerals.{add-one}
 use native.Mathlib.Omega.{arith}
-use borrow.Author.Tests.{eqb-true}
-use lib.Dec.{eqb}
 use lib.ListN.{length, getD, set, take, drop, replicate, take-append-drop}
 use Rattle.union_array.specs.Types.{Layout, Sparse, Dense, Column, UnionArray, Amounts, noColumn, noArray, byLayout}
 use Rattle.union_array.specs.Buffers.{Buffers, amountsOf}
 use Rattle.union_array.specs.Refusal.{no, _then_, ifYes}
 use Rattle.union_array.specs.Slots.{inUse}
-use Rattle.union_array.specs.Questions.{columnIn, question9, asked}
+use Rattle.union_array.specs.Questions.{question9, asked}
 use Rattle.union_array.specs.Slices.{Slice, movedColumn, sliced, sliceChecked, sliceOf}
 use Rattle.union_array.specs.Movable.{ColumnMovable, Movable, noSlice}
 use Rattle.union_array.proofs.Tests.{then-left, refused-is}
-use Rattle.union_array.proofs.Columns.{all-at}
-use Rattle.union_array.proofs.Accepted.{Accepted, accepted, inside}
-use Rattle.union_array.proofs.Present.{mask-fits}
+use Rattle.union_array.proofs.Accepted.{Accepted, column-at as column-accepted, slots-at, mask-part}
 
 -- ---- a list whose first j elements are changed by f
 
@@ -128,12 +124,12 @@ movable a lent y full i f v k o l =
       offsets = λ d. omega (arith, y .offsets d);
       columns = λ s j b.
           let c : Column = getD (a .columns) j noColumn in
-          let x = inside lent c (all-at (columnIn lent) (a .fields) (a .columns) j (y .columns) b (omega arith)) in
-          let e = eqb-true (c .slots) (a .count) (all-at (λ c. eqb (c .slots) (a .count)) (a .fields) (a .columns) j (y .sparse s) b (omega arith)) in
+          let x = column-accepted a lent y j b (omega arith) in
+          let e = slots-at a lent y s j b (omega arith) in
           record {
             short = omega arith;
             values = omega (arith, x .values);
-            mask = λ h. omega (arith, mask-fits c (lent .masks) (x .mask) h);
+            mask = λ h. omega (arith, mask-part lent c (x .mask) h);
           };
     }
 

@@ -8,11 +8,13 @@ use native.Mathlib.Numerals.{add-one}
 use native.Mathlib.Omega.{arith}
 use lib.ListN.{length, getD, set, take, drop, replicate, length-append, length-replicate, length-drop}
 use lib.Seq.{take-suc, set-at, length-take-le, take-append-add, take-all}
-use lib.IntN.{ℤ}
-use Rattle.union_array.specs.Types.{Kind, Int8, Int16, Int32, Int64, UInt8, UInt16, UInt32, UInt64, Float32, Float64, Column, widthOf, lowBits}
+use lib.Dec.{leb}
+use borrow.Author.Tests.{leb-true}
+use Rattle.bitmap.proofs.Tables.{both}
+use Rattle.union_array.specs.Types.{Kind, Int8, Int16, Int32, Int64, UInt8, UInt16, UInt32, UInt64, Float32, Float64, Column, Amounts, widthOf, lowBits}
 use Rattle.union_array.specs.Buffers.{Buffers, buffersOf, amountsOf}
 use Rattle.union_array.specs.Slots.{present}
-use Rattle.union_array.specs.Questions.{columnIn}
+use Rattle.union_array.specs.Questions.{partIn, maskIn, columnIn}
 use Rattle.union_array.specs.Lookup.{Value, padded, columnValue}
 
 pub width-le : (k : Kind) → widthOf k ≤ 64
@@ -54,6 +56,27 @@ pub name-is : (names : List ℕ) (start size : ℕ) → size ≤ 32 → start + 
 name-is names start size h l =
     let e : length (take size (drop start names)) ≡ size = length-take-le size (drop start names) (simp length-drop (omega arith)) in
     rw e at (padded-is (take size (drop start names)) (rw e h))
+
+-- ---- a column whose parts lie in lent memory
+
+pub record Inside (lent : Amounts) (c : Column) : Type 0 where
+  pub short : c .size ≤ 32
+  pub name : c .name + c .size ≤ lent .names
+  pub values : c .values + c .slots ≤ lent .values
+  pub mask : maskIn c (lent .masks) ≡ true
+
+pub inside : (lent : Amounts) (c : Column) → columnIn lent c ≡ true → Inside lent c
+unfolding columnIn
+inside lent c h =
+    let a = both (leb (c .size) 32) _ h in
+    let b = both (partIn (c .name) (c .size) (lent .names)) _ (a .1) in
+    let d = both (partIn (c .values) (c .slots) (lent .values)) _ (b .1) in
+    record {
+      short = leb-true (c .size) 32 (a .0);
+      name = leb-true (c .name + c .size) (lent .names) (b .0);
+      values = leb-true (c .values + c .slots) (lent .values) (d .0);
+      mask = d .1;
+    }
 
 -- ---- a child's slot
 

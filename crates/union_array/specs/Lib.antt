@@ -8,5 +8,6 @@ pub mod Lookup
 pub mod Slices
 pub mod Look
 pub mod Pass
+pub mod Check
 pub mod ChildSlot
 pub mod Movable

@@ -1,4 +1,5 @@
 // The union array: a description by value over lent memory.
+pub mod check;
 pub mod lookup;
 pub mod presence;
 pub mod questions;

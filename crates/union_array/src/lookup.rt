@@ -10,7 +10,7 @@ ghost use lib.ListN.{length, getD, take, drop, replicate};
 ghost use Rattle.union_array.specs.Types.{widthOf, lowBits};
 ghost use Rattle.union_array.specs.Buffers.{buffersOf, onlyMasks, amountsOf};
 ghost use Rattle.union_array.specs.Slots.{all, nullsIn};
-ghost use Rattle.union_array.specs.Questions.{columnIn, maskIn, within};
+ghost use Rattle.union_array.specs.Questions.{columnIn, maskIn};
 ghost use Rattle.union_array.specs.Lookup.{padded, columnValue, noValue, valueOf, typeIdOf, valueOffsetOf, childOf, typeNamesOf, isDenseOf, isNullableOf, typeIdsOf, nameOf, noName};
 ghost use Rattle.union_array.specs.ChildSlot.{noChildSlot, settled, shownAs};
 use crate::Amounts;
@@ -27,6 +27,7 @@ use crate::TypeNames;
 use crate::UnionArray;
 use crate::Value;
 use crate::ValueOffset;
+use crate::check;
 use crate::presence;
 use crate::questions;
 
@@ -145,16 +146,6 @@ fn offset_at(offsets: &[i32], start: usize, i: usize) -> i32
     offsets[at]
 }
 
-// Whether an offset is at least 0 and below n.
-fn is_within(offset: i32, n: u32) -> bool
-    ensures { λ r. ⌜ r ≡ within offset n ⌝ }
-{
-    if offset < 0 {
-        return false;
-    }
-    (offset as u32) < n
-}
-
 // An offset as a slot's number.
 fn slot_of(offset: i32) -> usize
     requires { ⌜ T (nonNeg offset) ⌝ }
@@ -196,7 +187,7 @@ fn settle(l: Looked, layout: Layout, n: usize, i: usize, id: i8, offset: i32) ->
             id: id,
         },
         Layout::Dense => {
-            if !is_within(offset, c.slots) {
+            if !check::is_within(offset, c.slots) {
                 return no_child_slot(8);
             }
             ChildSlot {

@@ -4,9 +4,8 @@ use mir.Val.{toZ, ofZ}
 use mir.Facts.{toZ-ofZ}
 use Rattle.union_array.specs.Buffers.{Buffers, buffersOf, amountsOf}
 use Rattle.union_array.specs.ChildSlot.{childSlotOf}
-use Rattle.union_array.proofs.Accepted.{child-in, slot-in}
 use Rattle.union_array.proofs.Values.{value-parts, column-parts}
-use Rattle.union_array.proofs.ChildSlots.{found-is, value-refused, value-is, column-is, slot-is, checked-is}
+use Rattle.union_array.proofs.ChildSlots.{found-is, value-refused, value-is, child-in, slot-within}
 use borrow.Author.Needs.{needs}
 use Rattle.union_array.proofs.UnionArray.value.Statement.{statement}
 use Rattle.union_array.proofs.UnionArray.value.Tie as tie
@@ -54,10 +53,10 @@ column-value-requires : tie.Need-column-value-requires
 column-value-requires c κs =
     let s = c .before .before .before .before .before .before .before .before .before .before in
     let t = c .before .before .before .settle .result in
-    let z = c .before .if1 .left in
-    let k = checked-is (s .args .self) (lent s) (s .args .i) t (found (c .before .before .before)) z in
-    rw (column-is (s .args .self) (lent s) (s .args .i) t (found (c .before .before .before)) z, slot-is (s .args .self) (lent s) (s .args .i) t (found (c .before .before .before)) z)
-    (slot-in (s .args .self) (lent s) (s .args .i) k, column-parts _ (lent s) ∙ child-in (s .args .self) (lent s) (s .args .i) k)
+    let z = c .before .if1 .left in (
+      slot-within (s .args .self) (lent s) (s .args .i) t (found (c .before .before .before)) z,
+      column-parts (t .column) (lent s) ∙ child-in (s .args .self) (lent s) (s .args .i) t (found (c .before .before .before)) z,
+    )
 
 returns-2 : tie.Need-returns-2
 returns-2 c =

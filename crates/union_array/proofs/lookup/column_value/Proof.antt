@@ -7,9 +7,8 @@ use native.Mathlib.Omega.{arith}
 use mathlib.Core.Path.{_≡_, sym, ap, _∙_}
 use mathlib.Core.List.{[]}
 use Rattle.union_array.specs.Buffers.{Buffers, buffersOf, amountsOf}
-use Rattle.union_array.proofs.Accepted.{Inside, inside}
 use Rattle.union_array.proofs.Present.{present-masks}
-use Rattle.union_array.proofs.Values.{value-present, value-missing}
+use Rattle.union_array.proofs.Values.{Inside, inside, value-present, value-missing}
 use borrow.Author.Needs.{needs}
 use Rattle.union_array.proofs.lookup.column_value.Statement.{statement}
 use Rattle.union_array.proofs.lookup.column_value.Tie as tie

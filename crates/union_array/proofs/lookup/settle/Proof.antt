@@ -7,7 +7,7 @@ use Rattle.union_array.proofs.lookup.settle.Statement.{statement}
 use Rattle.union_array.proofs.lookup.settle.Tie as tie
 use Rattle.union_array.proofs.lookup.settle.Reads as reads
 use Rattle.union_array.proofs.lookup.settle.Lts as lts
-use Rattle.union_array.proofs.lookup.is_within.Reads as is-within-reads
+use Rattle.union_array.proofs.check.is_within.Reads as is-within-reads
 use Rattle.union_array.proofs.lookup.no_child_slot.Reads as no-child-slot-reads
 use Rattle.union_array.proofs.lookup.slot_of.Reads as slot-of-reads
 
