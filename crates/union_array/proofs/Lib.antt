@@ -11,3 +11,4 @@ pub mod Values
 pub mod ChildSlots
 pub mod Lookups
 pub mod Sliced
+pub mod SlicedSlots
