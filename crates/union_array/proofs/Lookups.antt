@@ -1,22 +1,19 @@
 -- What the lookups of a whole array answer. Assumes nothing.
 use mathlib.Core.Path.{_≡_, refl, sym, ap, _∙_}
-use mathlib.Core.Bool.{Bool, true, false, not, _&&_, true≢false}
+use mathlib.Core.Bool.{Bool, true, false, not, true≢false}
 use mathlib.Core.Option.{Option, none, some}
 use mathlib.Core.List.{List, [], _∷_, _++_, map}
-use Prim.Native.Nat.{ℕ, zero, suc, _+_, _-_, _≤_, _<_}
-use native.Mathlib.Numerals.{add-one}
-use native.Mathlib.Omega.{arith}
+use Prim.Native.Nat.{ℕ, zero, suc, _+_, _-_, _<_}
 use lib.Dec.{eqb}
 use lib.IntN.{ℤ}
 use lib.ListN.{length, getD, set, take, drop, replicate, length-map, List·getD-map}
-use lib.Seq.{take-suc, length-take-le, set-at}
 use Rattle.bitmap.proofs.Tables.{both}
-use Rattle.union_array.specs.Types.{Layout, Sparse, Dense, Column, UnionArray, noColumn, byLayout}
+use Rattle.union_array.specs.Types.{Layout, Column, UnionArray, noColumn, byLayout}
 use Rattle.union_array.specs.Buffers.{Buffers, onlyMasks, amountsOf}
 use Rattle.union_array.specs.Refusal.{no, _then_, ifYes}
 use Rattle.union_array.specs.Slots.{inUse, all, columnOf, isSome, present, nullsIn}
 use Rattle.union_array.specs.Questions.{asked, columnIn, maskIn}
-use Rattle.union_array.specs.Lookup.{Child, Flag, TypeNames, NamePlace, Shown, orNone, childOf, isDenseOf, isNullableOf, typeNamesOf, typeIdsOf, nameOf, noName}
+use Rattle.union_array.specs.Lookup.{Child, Flag, TypeNames, NamePlace, orNone, childOf, isDenseOf, isNullableOf, typeNamesOf, typeIdsOf, nameOf, noName}
 use Rattle.union_array.specs.Look.{Looked, lookOf}
 use Rattle.union_array.specs.ChildSlot.{shownAs}
 use Rattle.union_array.proofs.Tests.{refused-is}

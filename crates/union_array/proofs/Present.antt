@@ -1,7 +1,6 @@
 -- What a child's mask says of its slots, one by one, 64 at a time, and counted. Assumes nothing.
 use mathlib.Core.Path.{_≡_, refl, sym, ap, ap₂, _∙_}
-use mathlib.Core.Bool.{Bool, true, false, not, _&&_, _||_}
-use mathlib.Core.List.{List}
+use mathlib.Core.Bool.{true, false, not, _&&_}
 use Prim.Native.Nat.{ℕ, _+_, _-_, _*_, _%_, _^_, _≤_, _<_, min}
 use native.Mathlib.Nat.{add-assoc, le-of-suc-le-suc, lt-of-not-le}
 use native.Mathlib.Decide.{decLt}

@@ -1,18 +1,17 @@
 -- What a slice is: one more child moved, and what an accepted array has can be moved. Assumes nothing.
 use mathlib.Core.Path.{_≡_, refl, sym, ap, _∙_}
-use mathlib.Core.Bool.{Bool, true, false, cond}
+use mathlib.Core.Bool.{Bool}
 use mathlib.Core.List.{List, [], _∷_, _++_, map}
-use Prim.Native.Nat.{ℕ, zero, suc, _+_, _-_, _*_, _^_, _≤_, _<_}
+use Prim.Native.Nat.{ℕ, zero, suc, _+_, _-_, _^_, _≤_, _<_}
 use native.Mathlib.Numerals.{add-one}
 use native.Mathlib.Omega.{arith}
 use lib.ListN.{length, getD, set, take, drop, replicate, take-append-drop}
 use Rattle.union_array.specs.Types.{Layout, Sparse, Dense, Column, UnionArray, Amounts, noColumn, noArray, byLayout}
 use Rattle.union_array.specs.Buffers.{Buffers, amountsOf}
 use Rattle.union_array.specs.Refusal.{no, _then_, ifYes}
-use Rattle.union_array.specs.Slots.{inUse}
 use Rattle.union_array.specs.Questions.{question9, asked}
 use Rattle.union_array.specs.Slices.{Slice, movedColumn, sliced, sliceChecked, sliceOf}
-use Rattle.union_array.specs.Movable.{ColumnMovable, Movable, noSlice}
+use Rattle.union_array.specs.Movable.{Movable, noSlice}
 use Rattle.union_array.proofs.Tests.{then-left, refused-is}
 use Rattle.union_array.proofs.Accepted.{Accepted, column-at as column-accepted, slots-at, mask-part}
 

@@ -6,8 +6,8 @@ use mathlib.Core.List.{List, [], _∷_, _++_, map}
 use Prim.Native.Nat.{ℕ, zero, suc, _+_, _-_, _*_, _/_, _%_, _≤_, _<_}
 use native.Mathlib.Nat.{add-assoc, zero-add}
 use native.Mathlib.Omega.{arith}
-use borrow.Author.Tests.{leb-true, le-leb, eqb-true, eq-eqb, lt-ltb}
-use lib.Dec.{eqb, leb, ltb}
+use borrow.Author.Tests.{le-leb, eqb-true, eq-eqb, lt-ltb}
+use lib.Dec.{eqb, leb}
 use lib.IntN.{ℤ, pos, natAbs}
 use lib.ListN.{getD, take, drop}
 use Rattle.bitmap.specs.Bits.{bitAt, sameId}
@@ -15,12 +15,12 @@ use Rattle.bitmap.proofs.Tables.{both}
 use Rattle.union_array.specs.Types.{Layout, Sparse, Dense, Column, UnionArray, Amounts, byLayout}
 use Rattle.union_array.specs.Buffers.{Buffers, amountsOf}
 use Rattle.union_array.specs.Refusal.{no, _then_, ifYes}
-use Rattle.union_array.specs.Slots.{inUse, all, columnOf, isSome, typeIdAt, offsetAt, childAt, slotAt, present, nullIn, slotNull}
+use Rattle.union_array.specs.Slots.{inUse, all, columnOf, isSome, typeIdAt, offsetAt, childAt, present, nullIn, slotNull}
 use Rattle.union_array.specs.Questions.{validId, distinct, partIn, maskIn, columnIn, question1, question2, question3, question4, question5, question6, withinChild, asked, slotChecked}
 use Rattle.union_array.specs.Lookup.{Value, columnValue, valueIn, noValue, valueOf}
-use Rattle.union_array.specs.Slices.{movedColumn, sliced, sliceChecked, sliceOf}
-use Rattle.union_array.proofs.Accepted.{Accepted, accepted, ColumnAccepted, mask-part}
-use Rattle.union_array.proofs.Values.{Inside, inside}
+use Rattle.union_array.specs.Slices.{movedColumn, sliced}
+use Rattle.union_array.proofs.Accepted.{Accepted, accepted, mask-part}
+use Rattle.union_array.proofs.Values.{inside}
 
 -- ---- moved columns
 

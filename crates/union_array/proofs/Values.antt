@@ -1,13 +1,13 @@
 -- What a lookup reads: a value's width, a name with zeros after it, a child's slot. Assumes nothing.
 use mathlib.Core.Path.{_≡_, refl, sym, ap, _∙_}
-use mathlib.Core.Bool.{Bool, true, false, cond, not, _&&_}
+use mathlib.Core.Bool.{Bool, true, false}
 use mathlib.Core.List.{List, [], _∷_, _++_, append-assoc}
 use Prim.Native.Nat.{ℕ, zero, suc, _+_, _-_, _≤_, _<_}
 use native.Mathlib.Nat.{not-suc-le-zero}
 use native.Mathlib.Numerals.{add-one}
 use native.Mathlib.Omega.{arith}
-use lib.ListN.{length, getD, set, take, drop, replicate, length-append, length-replicate, length-drop}
-use lib.Seq.{take-suc, set-at, length-take-le, take-append-add, take-all}
+use lib.ListN.{length, getD, set, take, drop, replicate, length-drop}
+use lib.Seq.{take-suc, set-at, length-take-le, take-append-add}
 use lib.Dec.{leb}
 use borrow.Author.Tests.{leb-true}
 use Rattle.bitmap.proofs.Tables.{both}

@@ -1,5 +1,5 @@
 -- A slot's child and its slot in it: what the slot lookups share.
-use mathlib.Core.Bool.{Bool, true}
+use mathlib.Core.Bool.{true}
 use mathlib.Core.List.{List}
 use Prim.Native.Nat.{ℕ}
 use lib.Dec.{ltb}

@@ -1,7 +1,7 @@
 // Lookups: a slot's value, type id and place, a child, the names, the type ids.
 ghost use mathlib.Core.Path.{_≡_};
 ghost use mathlib.Core.Bool.{true, not};
-ghost use mathlib.Core.List.{List, [], _++_, map};
+ghost use mathlib.Core.List.{[], _++_, map};
 ghost use Prim.Native.Nat.{_+_, _-_, _*_, _≤_, _<_};
 ghost use lib.Dec.{T, eqb};
 ghost use lib.IntN.{pos, natAbs};

@@ -1,6 +1,6 @@
 // Slices: the same memory under a moved description.
 ghost use mathlib.Core.Path.{_≡_};
-ghost use Prim.Native.Nat.{_+_, _^_, _≤_, _<_};
+ghost use Prim.Native.Nat.{_+_, _<_};
 ghost use Rattle.union_array.specs.Types.{Sparse, noArray};
 ghost use Rattle.union_array.specs.Buffers.{buffersOf};
 ghost use Rattle.union_array.specs.Slices.{movedColumn, sliced, sliceOf};

@@ -1,4 +1,4 @@
-use mathlib.Core.Path.{_≡_, refl, sym, ap, _∙_}
+use mathlib.Core.Path.{_≡_}
 use mathlib.Core.Bool.{true, false}
 use Rattle.union_array.specs.Buffers.{Buffers, buffersOf, amountsOf}
 use borrow.Author.Tests.{not-true, not-false}
@@ -8,9 +8,6 @@ use Rattle.union_array.proofs.Lookups.{child-refused, child-found}
 use borrow.Author.Needs.{needs}
 use Rattle.union_array.proofs.UnionArray.child.Statement.{statement}
 use Rattle.union_array.proofs.UnionArray.child.Tie as tie
-use Rattle.union_array.proofs.UnionArray.child.Reads as reads
-use Rattle.union_array.proofs.UnionArray.child.Lts as lts
-use Rattle.union_array.proofs.questions.look.Reads as look-reads
 
 abbrev lent : tie.Start → Buffers
 lent s = let a = s .args in buffersOf (a .type-ids .now) (a .offsets .now) (a .values .now) (a .masks .now) (a .names .now)

@@ -1,14 +1,9 @@
-use mathlib.Core.Path.{_≡_, refl, sym, ap, _∙_}
-use mathlib.Core.Bool.{true, false}
-use Rattle.union_array.specs.Buffers.{Buffers, buffersOf, amountsOf}
+use Rattle.union_array.specs.Buffers.{Buffers, buffersOf}
 use Rattle.union_array.specs.Types.{Sparse, Dense}
 use Rattle.union_array.proofs.Lookups.{dense-refused, dense-is}
 use borrow.Author.Needs.{needs}
 use Rattle.union_array.proofs.UnionArray.is_dense.Statement.{statement}
 use Rattle.union_array.proofs.UnionArray.is_dense.Tie as tie
-use Rattle.union_array.proofs.UnionArray.is_dense.Reads as reads
-use Rattle.union_array.proofs.UnionArray.is_dense.Lts as lts
-use Rattle.union_array.proofs.questions.ask.Reads as ask-reads
 
 abbrev lent : tie.Start → Buffers
 lent s = let a = s .args in buffersOf (a .type-ids .now) (a .offsets .now) (a .values .now) (a .masks .now) (a .names .now)

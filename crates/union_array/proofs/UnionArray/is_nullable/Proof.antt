@@ -1,14 +1,10 @@
-use mathlib.Core.Path.{_≡_, refl, sym, ap, _∙_}
+use mathlib.Core.Path.{sym, _∙_}
 use Rattle.union_array.specs.Buffers.{Buffers, buffersOf, amountsOf}
 use Rattle.union_array.proofs.Accepted.{accepted}
 use Rattle.union_array.proofs.Lookups.{nullable-refused, nullable-is, masks-in}
 use borrow.Author.Needs.{needs}
 use Rattle.union_array.proofs.UnionArray.is_nullable.Statement.{statement}
 use Rattle.union_array.proofs.UnionArray.is_nullable.Tie as tie
-use Rattle.union_array.proofs.UnionArray.is_nullable.Reads as reads
-use Rattle.union_array.proofs.UnionArray.is_nullable.Lts as lts
-use Rattle.union_array.proofs.lookup.any_null.Reads as any-null-reads
-use Rattle.union_array.proofs.questions.ask.Reads as ask-reads
 
 abbrev lent : tie.Start → Buffers
 lent s = let a = s .args in buffersOf (a .type-ids .now) (a .offsets .now) (a .values .now) (a .masks .now) (a .names .now)

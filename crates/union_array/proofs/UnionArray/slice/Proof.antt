@@ -1,6 +1,6 @@
-use mathlib.Core.Path.{_≡_, refl, sym, ap, _∙_}
-use mathlib.Core.Bool.{Bool, true, false}
-use Prim.Native.Nat.{ℕ, _+_, _≤_}
+use mathlib.Core.Path.{_≡_, sym, _∙_}
+use mathlib.Core.Bool.{true, false}
+use Prim.Native.Nat.{_+_, _≤_}
 use native.Mathlib.Omega.{arith}
 use borrow.Author.Tests.{leb-true, not-true, not-false}
 use lib.ListN.{length, length-map}
@@ -10,12 +10,6 @@ use Rattle.union_array.proofs.Sliced.{slice-refused, slice-is, movable}
 use borrow.Author.Needs.{needs}
 use Rattle.union_array.proofs.UnionArray.slice.Statement.{statement}
 use Rattle.union_array.proofs.UnionArray.slice.Tie as tie
-use Rattle.union_array.proofs.UnionArray.slice.Reads as reads
-use Rattle.union_array.proofs.UnionArray.slice.Lts as lts
-use Rattle.union_array.proofs.questions.ask.Reads as ask-reads
-use Rattle.union_array.proofs.questions.part_in.Reads as part-in-reads
-use Rattle.union_array.proofs.slices.cut.Reads as cut-reads
-use Rattle.union_array.proofs.slices.no_slice.Reads as no-slice-reads
 
 abbrev lent : tie.Start → Buffers
 lent s = let a = s .args in buffersOf (a .type-ids .now) (a .offsets .now) (a .values .now) (a .masks .now) (a .names .now)

@@ -1,19 +1,13 @@
-use mathlib.Core.Path.{_≡_, refl, sym, ap, _∙_}
+use mathlib.Core.Path.{_≡_, _∙_}
 use mir.Syntax.{w8, w32}
 use mir.Val.{toZ, ofZ}
 use mir.Facts.{toZ-ofZ}
-use Rattle.union_array.specs.Buffers.{Buffers, buffersOf, amountsOf}
+use Rattle.union_array.specs.Buffers.{Buffers, buffersOf}
 use Rattle.union_array.specs.ChildSlot.{childSlotOf}
 use Rattle.union_array.proofs.ChildSlots.{found-is, type-id-is}
 use borrow.Author.Needs.{needs}
 use Rattle.union_array.proofs.UnionArray.type_id.Statement.{statement}
 use Rattle.union_array.proofs.UnionArray.type_id.Tie as tie
-use Rattle.union_array.proofs.UnionArray.type_id.Reads as reads
-use Rattle.union_array.proofs.UnionArray.type_id.Lts as lts
-use Rattle.union_array.proofs.lookup.id_at.Reads as id-at-reads
-use Rattle.union_array.proofs.lookup.offset_at.Reads as offset-at-reads
-use Rattle.union_array.proofs.lookup.settle.Reads as settle-reads
-use Rattle.union_array.proofs.questions.look.Reads as look-reads
 
 abbrev lent : tie.Start → Buffers
 lent s = let a = s .args in buffersOf (a .type-ids .now) (a .offsets .now) (a .values .now) (a .masks .now) (a .names .now)

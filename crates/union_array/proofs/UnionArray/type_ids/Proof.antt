@@ -1,17 +1,13 @@
-use mathlib.Core.Path.{_≡_, refl, sym, ap, _∙_}
-use mathlib.Core.Bool.{Bool, true, false, not}
-use Prim.Native.Nat.{ℕ, _+_, _-_, _≤_, _<_}
+use mathlib.Core.Path.{_≡_, sym, _∙_}
+use Prim.Native.Nat.{_+_, _-_, _≤_}
 use native.Mathlib.Omega.{arith}
-use lib.ListN.{length, getD, take}
+use lib.ListN.{length}
 use Rattle.union_array.specs.Buffers.{Buffers, buffersOf, amountsOf}
 use Rattle.union_array.proofs.Accepted.{accepted}
 use Rattle.union_array.proofs.Lookups.{ids-refused, ids-are}
 use borrow.Author.Needs.{needs}
 use Rattle.union_array.proofs.UnionArray.type_ids.Statement.{statement}
 use Rattle.union_array.proofs.UnionArray.type_ids.Tie as tie
-use Rattle.union_array.proofs.UnionArray.type_ids.Reads as reads
-use Rattle.union_array.proofs.UnionArray.type_ids.Lts as lts
-use Rattle.union_array.proofs.questions.ask.Reads as ask-reads
 
 abbrev lent : tie.Start → Buffers
 lent s = let a = s .args in buffersOf (a .type-ids .now) (a .offsets .now) (a .values .now) (a .masks .now) (a .names .now)

@@ -1,12 +1,11 @@
 use borrow.Author.Needs.{needs}
 use mathlib.Core.Path.{_≡_, refl, sym, ap, _∙_}
-use mathlib.Core.Bool.{Bool, true, false, not}
-use Prim.Native.Nat.{ℕ, _+_, _-_, _≤_, _<_}
+use mathlib.Core.Bool.{true, not}
+use Prim.Native.Nat.{_-_, _≤_}
 use native.Mathlib.Omega.{arith}
-use lib.ListN.{length, getD, take}
+use lib.ListN.{length, take}
 use lib.Dec.{eqb}
 use borrow.Author.Tests.{eq-eqb, ne-eqb}
-use Rattle.union_array.specs.Types.{Column, noColumn}
 use Rattle.union_array.specs.Buffers.{onlyMasks}
 use Rattle.union_array.specs.Slots.{all, nullsIn}
 use Rattle.union_array.specs.Questions.{maskIn}
@@ -14,9 +13,6 @@ use Rattle.union_array.proofs.Columns.{all-at}
 use Rattle.union_array.proofs.Lookups.{all-turn, all-fails}
 use Rattle.union_array.proofs.lookup.any_null.Statement.{statement}
 use Rattle.union_array.proofs.lookup.any_null.Tie as tie
-use Rattle.union_array.proofs.lookup.any_null.Reads as reads
-use Rattle.union_array.proofs.lookup.any_null.Lts as lts
-use Rattle.union_array.proofs.presence.null_count.Reads as null-count-reads
 
 abbrev Inv-loop : tie.InvT-loop
 Inv-loop fields masks columns j₀ j = (j ≤ fields) × (all (λ c. eqb (nullsIn c (onlyMasks masks)) 0) (take j columns) ≡ true)

@@ -1,10 +1,7 @@
 use mir.Syntax.{w8}
-use borrow.Author.Tests.{not-true}
 use mir.Facts.{toZ-ofZ}
-use lib.ListN.{length}
-use Rattle.union_array.specs.Types.{Column}
 use native.Mathlib.Omega.{arith}
-use mathlib.Core.Path.{_≡_, sym, ap, _∙_}
+use mathlib.Core.Path.{sym, _∙_}
 use mathlib.Core.List.{[]}
 use Rattle.union_array.specs.Buffers.{Buffers, buffersOf, amountsOf}
 use Rattle.union_array.proofs.Present.{present-masks}
@@ -12,11 +9,6 @@ use Rattle.union_array.proofs.Values.{Inside, inside, value-present, va
 use borrow.Author.Needs.{needs}
 use Rattle.union_array.proofs.lookup.column_value.Statement.{statement}
 use Rattle.union_array.proofs.lookup.column_value.Tie as tie
-use Rattle.union_array.proofs.lookup.column_value.Reads as reads
-use Rattle.union_array.proofs.lookup.column_value.Lts as lts
-use Rattle.union_array.proofs.lookup.low_bits.Reads as low-bits-reads
-use Rattle.union_array.proofs.lookup.padded_name.Reads as padded-name-reads
-use Rattle.union_array.proofs.presence.is_present.Reads as is-present-reads
 
 abbrev lent : tie.Start → Buffers
 lent s = let a = s .args in buffersOf [] [] (a .values .now) (a .masks .now) (a .names .now)

@@ -1,14 +1,10 @@
-use mathlib.Core.Path.{_≡_, sym, ap, _∙_}
+use mathlib.Core.Path.{ap, _∙_}
 use Prim.Native.Nat.{ℕ, _%_, _^_}
 use Rattle.union_array.specs.Types.{lowBits}
 use Rattle.union_array.proofs.Values.{width-le}
 use borrow.Author.Needs.{needs}
 use Rattle.union_array.proofs.lookup.low_bits.Statement.{statement}
 use Rattle.union_array.proofs.lookup.low_bits.Tie as tie
-use Rattle.union_array.proofs.lookup.low_bits.Reads as reads
-use Rattle.union_array.proofs.lookup.low_bits.Lts as lts
-use Rattle.bitmap.proofs.low.Reads as low-reads
-use Rattle.union_array.proofs.lookup.width.Reads as width-reads
 
 width-requires : tie.Need-width-requires
 width-requires c κs = search needs

@@ -1,14 +1,11 @@
 use borrow.Author.Needs.{needs}
-use mathlib.Core.Path.{_≡_, refl, sym, ap, _∙_}
-use mathlib.Core.Bool.{Bool, true, false, not}
-use Prim.Native.Nat.{ℕ, _+_, _-_, _≤_, _<_}
+use mathlib.Core.Path.{_≡_, _∙_}
+use Prim.Native.Nat.{_-_, _≤_}
 use native.Mathlib.Omega.{arith}
-use lib.ListN.{length, getD, take}
+use lib.ListN.{length}
 use Rattle.union_array.proofs.Lookups.{namesTo, names-none, names-turn, names-all}
 use Rattle.union_array.proofs.lookup.names_of.Statement.{statement}
 use Rattle.union_array.proofs.lookup.names_of.Tie as tie
-use Rattle.union_array.proofs.lookup.names_of.Reads as reads
-use Rattle.union_array.proofs.lookup.names_of.Lts as lts
 
 abbrev Inv-loop : tie.InvT-loop
 Inv-loop fields columns names₀ j₀ names j = (j ≤ fields) × (names ≡ namesTo columns j)

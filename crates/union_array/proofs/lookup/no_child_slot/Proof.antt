@@ -1,9 +1,6 @@
 use borrow.Author.Needs.{needs}
 use Rattle.union_array.proofs.lookup.no_child_slot.Statement.{statement}
 use Rattle.union_array.proofs.lookup.no_child_slot.Tie as tie
-use Rattle.union_array.proofs.lookup.no_child_slot.Reads as reads
-use Rattle.union_array.proofs.lookup.no_child_slot.Lts as lts
-use Rattle.union_array.proofs.questions.no_column.Reads as no-column-reads
 
 no-column-requires : tie.Need-no-column-requires
 no-column-requires c κs = search needs

@@ -1,12 +1,10 @@
 use native.Mathlib.Omega.{arith}
-use mathlib.Core.Path.{_≡_, sym}
+use mathlib.Core.Path.{sym}
 use lib.IntN.{pos}
 use lib.ListN.{List·getD-eq-default}
 use borrow.Author.Needs.{needs}
 use Rattle.union_array.proofs.lookup.offset_at.Statement.{statement}
 use Rattle.union_array.proofs.lookup.offset_at.Tie as tie
-use Rattle.union_array.proofs.lookup.offset_at.Reads as reads
-use Rattle.union_array.proofs.lookup.offset_at.Lts as lts
 
 returns : tie.Need-returns
 returns c = let a = c .before .args in sym (List·getD-eq-default (a .offsets .now) (pos 0) (omega arith))

@@ -1,15 +1,13 @@
 use borrow.Author.Needs.{needs}
-use mathlib.Core.Path.{_≡_, sym, ap, _∙_}
+use mathlib.Core.Path.{_≡_, _∙_}
 use mathlib.Core.List.{_++_}
-use Prim.Native.Nat.{ℕ, _+_, _-_, _≤_, _<_}
+use Prim.Native.Nat.{_+_, _-_, _≤_, _<_}
 use native.Mathlib.Omega.{arith}
 use lib.ListN.{length, take, drop, replicate, length-drop}
 use lib.Seq.{getD-drop}
 use Rattle.union_array.proofs.Values.{fill-more, name-is}
 use Rattle.union_array.proofs.lookup.padded_name.Statement.{statement}
 use Rattle.union_array.proofs.lookup.padded_name.Tie as tie
-use Rattle.union_array.proofs.lookup.padded_name.Reads as reads
-use Rattle.union_array.proofs.lookup.padded_name.Lts as lts
 
 abbrev Inv-loop : tie.InvT-loop
 Inv-loop names start size out₀ i₀ out i = (i ≤ size) × (out ≡ take i (drop start names) ++ replicate (32 - i) 0)

@@ -1,15 +1,10 @@
-use mathlib.Core.Path.{_≡_, refl, sym, ap, _∙_}
+use mathlib.Core.Path.{sym, _∙_}
 use borrow.Author.Tests.{not-true, not-false}
 use mir.Facts.{toZ-ofZ}
 use Rattle.union_array.proofs.ChildSlots.{within-sign, settled-first, settled-10, settled-7, settled-8, settled-sparse, settled-dense}
 use borrow.Author.Needs.{needs}
 use Rattle.union_array.proofs.lookup.settle.Statement.{statement}
 use Rattle.union_array.proofs.lookup.settle.Tie as tie
-use Rattle.union_array.proofs.lookup.settle.Reads as reads
-use Rattle.union_array.proofs.lookup.settle.Lts as lts
-use Rattle.union_array.proofs.check.is_within.Reads as is-within-reads
-use Rattle.union_array.proofs.lookup.no_child_slot.Reads as no-child-slot-reads
-use Rattle.union_array.proofs.lookup.slot_of.Reads as slot-of-reads
 
 no-child-slot-requires : tie.Need-no-child-slot-requires
 no-child-slot-requires c κs = search needs

@@ -4,11 +4,8 @@ use mathlib.Core.Path.{ap}
 use Rattle.union_array.proofs.Signed.{fits-abs}
 use Rattle.union_array.proofs.ChildSlots.{not-below}
 use mir.Facts.{toZ-ofZ}
-use borrow.Author.Needs.{needs}
 use Rattle.union_array.proofs.lookup.slot_of.Statement.{statement}
 use Rattle.union_array.proofs.lookup.slot_of.Tie as tie
-use Rattle.union_array.proofs.lookup.slot_of.Reads as reads
-use Rattle.union_array.proofs.lookup.slot_of.Lts as lts
 
 cast-result : tie.Need-cast-result
 cast-result c = rw (toZ-ofZ (c .fits .offset)) (c .pre, fits-abs (c .args .offset) (lit≤ tt) (c .fits .offset) (not-below (c .args .offset) (c .pre)))

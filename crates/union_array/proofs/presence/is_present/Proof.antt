@@ -1,4 +1,4 @@
-use mathlib.Core.Path.{_≡_, sym, _∙_, ap}
+use mathlib.Core.Path.{_∙_}
 use native.Mathlib.Omega.{arith}
 use Rattle.union_array.specs.Buffers.{onlyMasks, amountsOf}
 use Rattle.union_array.proofs.Accepted.{mask-part}
@@ -6,9 +6,6 @@ use Rattle.union_array.proofs.Present.{by-mask, no-mask}
 use borrow.Author.Needs.{needs}
 use Rattle.union_array.proofs.presence.is_present.Statement.{statement}
 use Rattle.union_array.proofs.presence.is_present.Tie as tie
-use Rattle.union_array.proofs.presence.is_present.Reads as reads
-use Rattle.union_array.proofs.presence.is_present.Lts as lts
-use Rattle.bitmap.proofs.get_bit.Reads as get-bit-reads
 
 cast-get-bit : tie.Need-cast-get-bit
 cast-get-bit c = search needs

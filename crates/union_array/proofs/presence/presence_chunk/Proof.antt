@@ -1,4 +1,4 @@
-use mathlib.Core.Path.{_≡_, sym, ap, _∙_}
+use mathlib.Core.Path.{_∙_}
 use native.Mathlib.Omega.{arith}
 use Rattle.union_array.specs.Buffers.{onlyMasks, amountsOf}
 use Rattle.union_array.proofs.Accepted.{mask-part}
@@ -6,11 +6,6 @@ use Rattle.union_array.proofs.Present.{chunk-masked, chunk-free}
 use borrow.Author.Needs.{needs}
 use Rattle.union_array.proofs.presence.presence_chunk.Statement.{statement}
 use Rattle.union_array.proofs.presence.presence_chunk.Tie as tie
-use Rattle.union_array.proofs.presence.presence_chunk.Reads as reads
-use Rattle.union_array.proofs.presence.presence_chunk.Lts as lts
-use Rattle.bitmap.proofs.chunk.Reads as chunk-reads
-use Rattle.bitmap.proofs.low.Reads as low-reads
-use Rattle.bitmap.proofs.span.Reads as span-reads
 
 cast-chunk : tie.Need-cast-chunk
 cast-chunk c = search needs

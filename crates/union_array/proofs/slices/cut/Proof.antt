@@ -1,15 +1,11 @@
 use borrow.Author.Needs.{needs}
-use mathlib.Core.Path.{_≡_, refl, sym, ap, _∙_}
-use Prim.Native.Nat.{ℕ, _+_, _-_, _≤_, _<_}
+use mathlib.Core.Path.{_≡_, _∙_}
+use Prim.Native.Nat.{_-_, _≤_}
 use native.Mathlib.Omega.{arith}
-use lib.ListN.{length, getD}
-use Rattle.union_array.specs.Types.{Sparse, Dense, UnionArray}
+use Rattle.union_array.specs.Types.{Sparse}
 use Rattle.union_array.proofs.Sliced.{slicedTo, sliced-is, dense-is, column-at, one-more}
 use Rattle.union_array.proofs.slices.cut.Statement.{statement}
 use Rattle.union_array.proofs.slices.cut.Tie as tie
-use Rattle.union_array.proofs.slices.cut.Reads as reads
-use Rattle.union_array.proofs.slices.cut.Lts as lts
-use Rattle.union_array.proofs.slices.move_column.Reads as move-column-reads
 
 abbrev Inv-loop : tie.InvT-loop
 Inv-loop a o n s₀ j₀ s j = (j ≤ a .fields) × (s ≡ slicedTo a o n Sparse j)

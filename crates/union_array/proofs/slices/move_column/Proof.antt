@@ -1,11 +1,8 @@
-use mathlib.Core.Path.{_≡_, refl, sym, ap, _∙_}
-use Prim.Native.Nat.{ℕ, _+_, _-_, _≤_, _<_}
+use Prim.Native.Nat.{_-_}
 use native.Mathlib.Omega.{arith}
 use borrow.Author.Needs.{needs}
 use Rattle.union_array.proofs.slices.move_column.Statement.{statement}
 use Rattle.union_array.proofs.slices.move_column.Tie as tie
-use Rattle.union_array.proofs.slices.move_column.Reads as reads
-use Rattle.union_array.proofs.slices.move_column.Lts as lts
 
 add-d : tie.Need-add-d
 add-d c = search needs

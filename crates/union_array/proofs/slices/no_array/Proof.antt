@@ -2,9 +2,6 @@ use Rattle.union_array.proofs.Sliced.{empty-is}
 use borrow.Author.Needs.{needs}
 use Rattle.union_array.proofs.slices.no_array.Statement.{statement}
 use Rattle.union_array.proofs.slices.no_array.Tie as tie
-use Rattle.union_array.proofs.slices.no_array.Reads as reads
-use Rattle.union_array.proofs.slices.no_array.Lts as lts
-use Rattle.union_array.proofs.questions.no_column.Reads as no-column-reads
 
 no-column-requires : tie.Need-no-column-requires
 no-column-requires c κs = search needs

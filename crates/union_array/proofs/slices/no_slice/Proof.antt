@@ -1,9 +1,6 @@
 use borrow.Author.Needs.{needs}
 use Rattle.union_array.proofs.slices.no_slice.Statement.{statement}
 use Rattle.union_array.proofs.slices.no_slice.Tie as tie
-use Rattle.union_array.proofs.slices.no_slice.Reads as reads
-use Rattle.union_array.proofs.slices.no_slice.Lts as lts
-use Rattle.union_array.proofs.slices.no_array.Reads as no-array-reads
 
 no-array-requires : tie.Need-no-array-requires
 no-array-requires c κs = search needs
