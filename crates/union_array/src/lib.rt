@@ -1,5 +1,7 @@
 // The union array: a description by value over lent memory.
 pub mod check;
+pub mod child_value;
+pub mod fields;
 pub mod lookup;
 pub mod presence;
 pub mod questions;

@@ -4,8 +4,8 @@ use Prim.Native.Nat.{_-_, _≤_}
 use native.Mathlib.Omega.{arith}
 use lib.ListN.{length}
 use Rattle.union_array.proofs.Lookups.{namesTo, names-none, names-turn, names-all}
-use Rattle.union_array.proofs.lookup.names_of.Statement.{statement}
-use Rattle.union_array.proofs.lookup.names_of.Tie as tie
+use Rattle.union_array.proofs.fields.names_of.Statement.{statement}
+use Rattle.union_array.proofs.fields.names_of.Tie as tie
 
 abbrev Inv-loop : tie.InvT-loop
 Inv-loop fields columns names₀ j₀ names j = (j ≤ fields) × (names ≡ namesTo columns j)

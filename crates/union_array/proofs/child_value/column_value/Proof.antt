@@ -7,8 +7,8 @@ use Rattle.union_array.specs.Buffers.{Buffers, buffersOf, amountsOf}
 use Rattle.union_array.proofs.Present.{present-masks}
 use Rattle.union_array.proofs.Values.{Inside, inside, value-present, value-missing}
 use borrow.Author.Needs.{needs}
-use Rattle.union_array.proofs.lookup.column_value.Statement.{statement}
-use Rattle.union_array.proofs.lookup.column_value.Tie as tie
+use Rattle.union_array.proofs.child_value.column_value.Statement.{statement}
+use Rattle.union_array.proofs.child_value.column_value.Tie as tie
 
 abbrev lent : tie.Start → Buffers
 lent s = let a = s .args in buffersOf [] [] (a .values .now) (a .masks .now) (a .names .now)

@@ -6,8 +6,8 @@ use native.Mathlib.Omega.{arith}
 use lib.ListN.{length, take, drop, replicate, length-drop}
 use lib.Seq.{getD-drop}
 use Rattle.union_array.proofs.Values.{fill-more, name-is}
-use Rattle.union_array.proofs.lookup.padded_name.Statement.{statement}
-use Rattle.union_array.proofs.lookup.padded_name.Tie as tie
+use Rattle.union_array.proofs.child_value.padded_name.Statement.{statement}
+use Rattle.union_array.proofs.child_value.padded_name.Tie as tie
 
 abbrev Inv-loop : tie.InvT-loop
 Inv-loop names start size out₀ i₀ out i = (i ≤ size) × (out ≡ take i (drop start names) ++ replicate (32 - i) 0)

@@ -11,8 +11,8 @@ use Rattle.union_array.specs.Slots.{all, nullsIn}
 use Rattle.union_array.specs.Questions.{maskIn}
 use Rattle.union_array.proofs.Columns.{all-at}
 use Rattle.union_array.proofs.Lookups.{all-turn, all-fails}
-use Rattle.union_array.proofs.lookup.any_null.Statement.{statement}
-use Rattle.union_array.proofs.lookup.any_null.Tie as tie
+use Rattle.union_array.proofs.fields.any_null.Statement.{statement}
+use Rattle.union_array.proofs.fields.any_null.Tie as tie
 
 abbrev Inv-loop : tie.InvT-loop
 Inv-loop fields masks columns j₀ j = (j ≤ fields) × (all (λ c. eqb (nullsIn c (onlyMasks masks)) 0) (take j columns) ≡ true)

@@ -3,8 +3,8 @@ use Prim.Native.Nat.{ℕ, _%_, _^_}
 use Rattle.union_array.specs.Types.{lowBits}
 use Rattle.union_array.proofs.Values.{width-le}
 use borrow.Author.Needs.{needs}
-use Rattle.union_array.proofs.lookup.low_bits.Statement.{statement}
-use Rattle.union_array.proofs.lookup.low_bits.Tie as tie
+use Rattle.union_array.proofs.child_value.low_bits.Statement.{statement}
+use Rattle.union_array.proofs.child_value.low_bits.Tie as tie
 
 width-requires : tie.Need-width-requires
 width-requires c κs = search needs
