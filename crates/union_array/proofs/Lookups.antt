@@ -13,9 +13,8 @@ use Rattle.union_array.specs.Buffers.{Buffers, onlyMasks, amountsOf}
 use Rattle.union_array.specs.Refusal.{no, _then_, ifYes}
 use Rattle.union_array.specs.Slots.{inUse, all, columnOf, isSome, present, nullsIn}
 use Rattle.union_array.specs.Questions.{asked, columnIn, maskIn}
-use Rattle.union_array.specs.Lookup.{Child, Flag, TypeNames, NamePlace, orNone, childOf, isDenseOf, isNullableOf, typeNamesOf, typeIdsOf, nameOf, noName}
+use Rattle.union_array.specs.Lookup.{Child, Flag, TypeNames, NamePlace, Shown, orNone, childOf, isDenseOf, isNullableOf, typeNamesOf, typeIdsOf, nameOf, noName}
 use Rattle.union_array.specs.Look.{Looked, lookOf}
-use Rattle.union_array.specs.ChildSlot.{shownAs}
 use Rattle.union_array.proofs.Tests.{refused-is}
 use Rattle.union_array.proofs.Accepted.{accepted}
 use Rattle.union_array.proofs.Values.{fill-more, inside}
@@ -99,11 +98,11 @@ module _ (a : UnionArray) (m : Buffers) where
 
   -- ---- type_ids
 
-  pub ids-refused : (r : ℕ) → r ≡ asked a (amountsOf m) → (r ≡ 0 → ⊥) → shownAs r [] ≡ typeIdsOf a m
+  pub ids-refused : (r : ℕ) → r ≡ asked a (amountsOf m) → (r ≡ 0 → ⊥) → _≡_ {A = Shown} (record { refusal = r; ids = [] }) (typeIdsOf a m)
   unfolding typeIdsOf
   ids-refused r e h = rw (← e, refused-is r (take (a .count) (drop (a .start) (m .ids))) [] h)
 
-  pub ids-are : (r n : ℕ) → r ≡ asked a (amountsOf m) → r ≡ 0 → n ≡ a .count → shownAs r (take n (drop (a .start) (m .ids))) ≡ typeIdsOf a m
+  pub ids-are : (r n : ℕ) → r ≡ asked a (amountsOf m) → r ≡ 0 → n ≡ a .count → _≡_ {A = Shown} (record { refusal = r; ids = take n (drop (a .start) (m .ids)) }) (typeIdsOf a m)
   unfolding typeIdsOf
   ids-are r n e z f = rw (← e, z, f)
 

@@ -9,7 +9,6 @@ ghost use Rattle.union_array.specs.Buffers.{buffersOf, onlyMasks};
 ghost use Rattle.union_array.specs.Slots.{all, nullsIn};
 ghost use Rattle.union_array.specs.Questions.{maskIn};
 ghost use Rattle.union_array.specs.Lookup.{childOf, typeNamesOf, isDenseOf, isNullableOf, typeIdsOf, nameOf, noName};
-ghost use Rattle.union_array.specs.ChildSlot.{shownAs};
 use crate::Amounts;
 use crate::Child;
 use crate::Column;
@@ -140,7 +139,7 @@ impl UnionArray {
         masks: &[u64],
         names: &[u8],
     ) -> &'a [i8]
-        ensures { λ r. ⌜ shownAs (now (refusal .exit)) (now r) ≡ typeIdsOf self (buffersOf (now («type_ids» .entry)) (now (offsets .entry)) (now (values .entry)) (now (masks .entry)) (now (names .entry))) ⌝ }
+        ensures { λ r. ⌜ record { refusal = now (refusal .exit); ids = now r } ≡ typeIdsOf self (buffersOf (now («type_ids» .entry)) (now (offsets .entry)) (now (values .entry)) (now (masks .entry)) (now (names .entry))) ⌝ }
     {
         let lent = Amounts {
             ids: type_ids.len(),

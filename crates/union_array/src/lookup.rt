@@ -58,6 +58,7 @@ fn slot_of(offset: i32) -> usize
     offset as usize
 }
 
+// A refused slot's answer.
 fn no_child_slot(refusal: u8) -> ChildSlot
     ensures { λ r. ⌜ r ≡ noChildSlot refusal ⌝ }
 {

@@ -72,6 +72,7 @@ pub fn no_array() -> UnionArray
     }
 }
 
+// A refused slice's answer.
 fn no_slice(refusal: u8) -> Slice
     ensures { λ r. ⌜ r ≡ noSlice refusal ⌝ }
 {
