@@ -1,4 +1,5 @@
 // The union array: a description by value over lent memory.
+pub mod presence;
 
 // The kind of a column's values. One word holds one value, in its low bits.
 pub enum Kind {
