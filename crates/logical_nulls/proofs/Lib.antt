@@ -1,0 +1,5 @@
+pub mod Routes
+pub mod Casts
+pub mod FieldStates
+pub mod Marking
+pub mod Entries
