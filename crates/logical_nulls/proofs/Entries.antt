@@ -3,7 +3,7 @@ use mathlib.Core.Path.{_≡_, refl, sym, ap, ap₂, _∙_, subst}
 use mathlib.Core.Bool.{Bool, true, false, cond, not, _&&_, _||_, false≢true}
 use mathlib.Core.List.{List, [], _∷_, _++_, map}
 use mathlib.Core.Option.{Option, none, some}
-use Prim.Native.Nat.{ℕ, zero, suc, _+_, _≤_, _<_, zero-le, suc-le-suc}
+use Prim.Native.Nat.{ℕ, zero, suc, _+_, _-_, _*_, _≤_, _<_, min, zero-le, suc-le-suc}
 use native.Mathlib.Numerals.{add-one}
 use native.Mathlib.Omega.{arith}
 use borrow.Author.Tests.{lt-ltb, le-ltb}
@@ -12,8 +12,15 @@ use lib.ListN.{getD, set, take, length, replicate, length-set, length-replicate}
 use lib.Seq.{take-suc, getD-set-same, getD-set-other}
 use lib.IntN.{ℤ, pos, negsuc, natAbs}
 use lib.Signed.{nonNeg}
-use Rattle.logical_nulls.specs.Fields.{Field, noField}
-use Rattle.logical_nulls.specs.Table.{withoutNulls, store, stored, tableOf}
+use Rattle.bitmap.specs.Bits.{pack}
+use Rattle.bitmap.proofs.Words.{pack-ext}
+use Rattle.union_array.specs.declared.Column.{Column}
+use Rattle.union_array.specs.Buffers.{onlyMasks}
+use Rattle.union_array.specs.Slots.{present}
+use Rattle.logical_nulls.specs.Fields.{Field, noField, asColumn}
+use Rattle.logical_nulls.specs.Steps.{wordOf, idAt}
+use Rattle.logical_nulls.proofs.Marking.{span-cut}
+use Rattle.logical_nulls.specs.Table.{withoutNulls, store, stored, tableOf, gatheredAt}
 
 -- ---- one more field
 
@@ -36,3 +43,21 @@ module _ (l : List Field) (q : ℕ) (h : q < length l) where
 
   pub table-no : getD l q noField .state ≤ 0 → tableOf (take q l) ≡ tableOf (take (q + 1) l)
   table-no e = sym (more ∙ ap (λ (b : Bool). store b (tableOf (take q l)) (natAbs (getD l q noField .id)) (getD l q noField)) (le-ltb 0 (getD l q noField .state) e))
+
+-- ---- a word of looked up bits
+
+module _ (t : List Field) (masks : List ℕ) (ids : List ℤ) (s : ℕ) (slot : ℕ → ℕ) (k : ℕ) where
+  -- bit j of word k
+  abbrev pub lookedUp : ℕ → Bool
+  lookedUp j = gatheredAt t masks ids s slot (64 * k + j)
+
+  pub gathered : (n len : ℕ) → n ≡ min 64 (len - 64 * k) → pack 64 (λ i. ltb i n && lookedUp i) ≡ wordOf len (gatheredAt t masks ids s slot) k
+  unfolding wordOf
+  gathered n len en = pack-ext 64 _ _ (λ j h. ap (λ (b : Bool). b && lookedUp j) (span-cut n len k en j h))
+
+  -- by an id z, a child slot p and the column of the entry, as they were read
+  pub looked-up : (j p : ℕ) (z : ℤ) (c : Column) (b : Bool) → z ≡ idAt ids s (64 * k + j) → p ≡ slot (64 * k + j) → c ≡ asColumn (getD t (natAbs z) noField)
+      → b ≡ present c (onlyMasks masks) p → lookedUp j ≡ b
+  unfolding gatheredAt
+  looked-up j p z c b e f g r =
+      sym (r ∙ ap₂ (λ (x : Column) (q : ℕ). present x (onlyMasks masks) q) (g ∙ ap (λ (y : ℤ). asColumn (getD t (natAbs y) noField)) e) f)

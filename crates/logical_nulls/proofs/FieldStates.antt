@@ -8,12 +8,13 @@ use native.Mathlib.Numerals.{add-one}
 use native.Mathlib.Omega.{arith}
 use borrow.Author.Tests.{eq-eqb, ne-eqb, eqb-true, not-true, not-false}
 use lib.Dec.{eqb, ltb}
-use lib.ListN.{getD, take, length}
+use lib.ListN.{getD, take, length, replicate, length-replicate}
 use lib.Seq.{take-suc}
 use mir.Val.{boolByte}
 use Rattle.bitmap.specs.Bits.{digit, count, isFullyNull}
 use Rattle.bitmap.specs.Lists.{table, retable}
 use Rattle.bitmap.proofs.Words.{digit-lt}
+use Rattle.bitmap.proofs.Tables.{retable-none}
 use Rattle.bitmap.proofs.OneBit.{byte-digit}
 use Rattle.bitmap.proofs.Counts.{count-zero, count-full, fully-null}
 use Rattle.union_array.specs.declared.Column.{Column}
@@ -139,3 +140,29 @@ take-table (suc n) f r = ap (λ (l : List Field). f 0 ∷ l) (take-table n (λ k
 pub fields-in : (m : Buffers) (n : ℕ) (cs : List Column) → n ≤ length cs → take n (retable n (fieldAt m cs) noFields) ≡ map (fieldOf m) (take n cs)
 unfolding retable
 fields-in m n cs h = take-table n (fieldAt m cs) _ ∙ table-map m n cs h
+
+-- ---- before the first column, and the counts by name
+
+pub none-yet : (m : Buffers) (cs : List Column) → replicate 128 noField ≡ retable 0 (fieldAt m cs) noFields
+unfolding noFields
+none-yet m cs = sym (retable-none (fieldAt m cs) noFields)
+
+pub no-fields : (p : Column → Bool) (cs : List Column) → 0 ≡ howMany p (take 0 cs)
+no-fields p cs = refl
+
+pub fields-length : length noFields ≡ 128
+unfolding noFields
+fields-length = length-replicate 128 noField
+
+pub byte-le : (b : Bool) → boolByte b ≤ 1
+byte-le true = omega arith
+byte-le false = omega arith
+
+module _ (a : UnionArray) (m : Buffers) where
+  pub with-nulls : howMany (hasNull m) (inUse a) ≡ withNulls a m
+  unfolding withNulls
+  with-nulls = refl
+
+  pub fully-nulls : howMany (fullyNull m) (inUse a) ≡ fullyNulls a m
+  unfolding fullyNulls
+  fully-nulls = refl

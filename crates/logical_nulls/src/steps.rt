@@ -56,14 +56,7 @@ fn mark(
 }
 
 // SkipOne: the first field has the slots that no other has.
-pub fn skip_one(
-    fs: Fields,
-    masks: &[u64],
-    ids: &[i8],
-    start: usize,
-    len: usize,
-    k: usize,
-) -> u64
+pub fn skip_one(fs: Fields, masks: &[u64], ids: &[i8], start: usize, len: usize, k: usize) -> u64
     requires { ⌜ Chunk fs (now masks) (now ids) start len k × (1 ≤ fs .count) ⌝ }
     ensures { λ r. ⌜ r ≡ wordOf len (skipOneAt (inList fs) (now (masks .entry)) (now (ids .entry)) start) k ⌝ }
 {
