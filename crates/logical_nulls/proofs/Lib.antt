@@ -2,4 +2,5 @@ pub mod Routes
 pub mod Casts
 pub mod FieldStates
 pub mod Marking
+pub mod Strategies
 pub mod Entries
