@@ -198,8 +198,11 @@ pub gathers : (a : UnionArray) (m : Buffers) → AllAccepted a m
     → Gathers (tableOf (map (fieldOf m) (inUse a))) (m .masks) (m .ids) (a .start) (a .layout) (m .offsets) (a .«offsets_start») (a .count)
 gathers a m y = record {
   lent = y .array .ids;
-  reach = λ e. (y .array .offsets e, λ i h.
-  child-plain (offsetAt a m i) (childAt a m i) (sym (ap (λ (l : Layout). byLayout l true (withinChild (offsetAt a m i) (childAt a m i))) e) ∙ y .slot i h .fits));
+  reach = λ e. (
+    y .array .offsets e,
+    λ i h.
+        child-plain (offsetAt a m i) (childAt a m i) (sym (ap (λ (l : Layout). byLayout l true (withinChild (offsetAt a m i) (childAt a m i))) e) ∙ y .slot i h .fits),
+  );
   plain = λ i h. id-ok a m y i h .0;
   within = λ i h. subst (λ (f : Field). (slotAt a m i < f .slots) × (maskIn (asColumn f) (length (m .masks)) ≡ true)) (sym (entry-is a m y i h)) (entry-fits a m y i h (ltb 0 (stateOf m (orNone (childAt a m i)))));
 }

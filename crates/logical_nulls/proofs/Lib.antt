@@ -4,3 +4,4 @@ pub mod FieldStates
 pub mod Marking
 pub mod Strategies
 pub mod Entries
+pub mod Writing

@@ -5,3 +5,4 @@ pub mod Mask
 pub mod Fields
 pub mod Steps
 pub mod Table
+pub mod Ready

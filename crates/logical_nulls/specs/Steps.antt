@@ -1,12 +1,13 @@
 -- The bit of slot i by each strategy that selects by type ids, and words of such bits.
 use mathlib.Core.Path.{_≡_}
-use mathlib.Core.Bool.{Bool, true, false, not, _&&_, _||_}
+use mathlib.Core.Bool.{Bool, true, false, cond, not, _&&_, _||_}
 use mathlib.Core.List.{List, [], _∷_}
 use Prim.Native.Nat.{ℕ, _+_, _*_, _≤_, _<_}
-use lib.Dec.{ltb}
+use lib.Dec.{eqb, ltb}
 use lib.IntN.{ℤ, pos}
 use lib.ListN.{getD, drop, length}
-use Rattle.bitmap.specs.Bits.{pack, sameId}
+use Rattle.bitmap.specs.Lists.{retable}
+use Rattle.bitmap.specs.Bits.{pack, wordsFor, sameId}
 use Rattle.union_array.specs.Buffers.{onlyMasks}
 use Rattle.union_array.specs.Slots.{present}
 use Rattle.union_array.specs.Questions.{maskIn}
@@ -23,6 +24,10 @@ any p (f ∷ fs) = p f || any p fs
 -- word k of len bits, whose bit i is f i; bits past len are 0
 unfoldable pub wordOf : ℕ → (ℕ → Bool) → ℕ → ℕ
 wordOf len f k = pack 64 (λ j. ltb (64 * k + j) len && f (64 * k + j))
+
+-- the mask of len bits, whose bit i is f i, and after it what was there
+unfoldable pub wordsOf : ℕ → (ℕ → Bool) → List ℕ → List ℕ
+wordsOf len f out = retable (wordsFor len) (wordOf len f) out
 
 -- slot p of a field's child is present
 abbrev pub fieldPresent : List ℕ → ℕ → Field → Bool
@@ -65,6 +70,11 @@ skipWithoutAt fs masks ids start i = presentAt WithNulls fs masks ids start i ||
 -- SkipFullyNull: of a field that is not fully null, and present
 unfoldable pub skipFullyAt : List Field → List ℕ → List ℤ → ℕ → ℕ → Bool
 skipFullyAt fs masks ids start i = presentAt NotFull fs masks ids start i
+
+-- the step of a route: SkipWithoutNulls 5, SkipFullyNull 6; SkipOne 4, and one field alone
+unfoldable pub stepAt : ℕ → List Field → List ℕ → List ℤ → ℕ → ℕ → Bool
+stepAt route fs masks ids start =
+    cond (eqb route 5) (skipWithoutAt fs masks ids start) (cond (eqb route 6) (skipFullyAt fs masks ids start) (skipOneAt fs masks ids start))
 
 -- what a step needs: word k of len slots, whose type ids, and whose mask bits in each child, are lent
 pub record Chunk (fs : Fields) (masks : List ℕ) (ids : List ℤ) (start len k : ℕ) : Type 0 where

@@ -4,6 +4,7 @@ pub mod route;
 pub mod states;
 pub mod steps;
 pub mod table;
+pub mod words;
 
 // The processor setting: what gathering costs, against one selection mask a chunk.
 pub struct Processor {

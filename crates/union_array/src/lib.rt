@@ -1,6 +1,6 @@
 // The union array: a description by value over lent memory.
-pub mod presence;
 pub mod check;
+pub mod presence;
 pub mod questions;
 
 // The kind of a column's values. One word holds one value, in its low bits.
