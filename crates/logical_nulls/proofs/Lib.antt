@@ -5,3 +5,4 @@ pub mod Marking
 pub mod Strategies
 pub mod Entries
 pub mod Writing
+pub mod Masks

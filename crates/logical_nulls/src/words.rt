@@ -1,8 +1,10 @@
 // The words of the null mask, by route.
 ghost use mathlib.Core.Path.{_≡_};
-ghost use mathlib.Core.Bool.{false};
+ghost use mathlib.Core.Bool.{false, not};
 ghost use Prim.Native.Nat.{ℕ, _*_, _^_, _<_, _≤_};
+ghost use lib.Dec.{eqb};
 ghost use lib.ListN.{length};
+ghost use Rattle.union_array.specs.Types.{byLayout};
 ghost use Rattle.bitmap.specs.Bits.{wordsFor, written};
 ghost use Rattle.union_array.specs.Slots.{slotNull};
 ghost use Rattle.logical_nulls.specs.Mask.{masked, maskedBy, presentOn, answerOn};
@@ -122,4 +124,61 @@ fn answer_on(route: u8, nulls: usize) -> LogicalNulls
         route,
         present,
     }
+}
+
+// Whether a route's words are made by a step: in a sparse union on every route but 3.
+fn by_step(layout: Layout, route: u8) -> bool
+    ensures { λ r. ⌜ r ≡ byLayout layout (not (eqb route 3)) false ⌝ }
+{
+    match layout {
+        Layout::Sparse => route != 3,
+        Layout::Dense => false,
+    }
+}
+
+// The null mask of an accepted array, by its route.
+fn write_mask(
+    array: UnionArray,
+    fs: Fields,
+    route: u8,
+    masks: &[u64],
+    ids: &[i8],
+    offsets: &[i32],
+    out: &mut [u64],
+)
+    requires { ⌜ Ready array fs route (now ids) (now offsets) (now masks) (now out) ⌝ }
+    ensures { λ _. ⌜ now (out .exit) ≡ written (array .count) (slotNull array (reads (now (ids .entry)) (now (offsets .entry)) (now (masks .entry)))) (now (out .entry)) ⌝ }
+{
+    let start = array.start;
+    let len = array.count;
+    if route == 2 {
+        write_nulls(len, out);
+        return;
+    }
+    let layout = array.layout;
+    if by_step(layout, route) {
+        write_steps(route, fs, masks, ids, start, len, out);
+        return;
+    }
+    let table = table::fill(fs);
+    let at = array.offsets_start;
+    write_gathered(table, masks, ids, start, layout, offsets, at, len, out);
+}
+
+// The null mask of an accepted array, written, and its answer.
+pub fn run_route(
+    array: UnionArray,
+    fs: Fields,
+    route: u8,
+    masks: &[u64],
+    ids: &[i8],
+    offsets: &[i32],
+    out: &mut [u64],
+) -> LogicalNulls
+    requires { ⌜ Ready array fs route (now ids) (now offsets) (now masks) (now out) × (1 ≤ route) ⌝ }
+    ensures { λ r. ⌜ masked r (now (out .exit)) ≡ maskedBy array (reads (now (ids .entry)) (now (offsets .entry)) (now (masks .entry))) route (now (out .entry)) ⌝ }
+{
+    write_mask(array, fs, route, masks, ids, offsets, out);
+    let counted = bitmap::null_count(out, 0, 0, array.count);
+    answer_on(route, counted.nulls)
 }

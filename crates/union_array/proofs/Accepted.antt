@@ -1,11 +1,10 @@
 -- What the answers yes tell: of 1 to 6, of one column, of 7 and 8, and of a slot. Assumes nothing.
-use mathlib.Core.Bool.{Bool, true, false, not, _&&_, _||_, true≢false, false≢true}
+use mathlib.Core.Bool.{Bool, true, false, not, _||_, false≢true}
 use mathlib.Core.Option.{Option, none, some}
-use mathlib.Core.List.{List}
 use mathlib.Core.Path.{_≡_, refl, sym, ap, _∙_}
 use Prim.Native.Nat.{ℕ, zero, suc, _+_, _*_, _≤_, _<_}
 use native.Mathlib.Omega.{arith}
-use lib.Dec.{eqb, leb, ltb}
+use lib.Dec.{eqb, leb}
 use lib.IntN.{ℤ, pos, negsuc, natAbs}
 use lib.ListN.{length, getD}
 use borrow.Author.Tests.{leb-true, eqb-true, ltb-true}
@@ -15,29 +14,7 @@ use Rattle.union_array.specs.Types.{Layout, Sparse, Dense, Column, Union
 use Rattle.union_array.specs.Buffers.{Buffers, amountsOf}
 use Rattle.union_array.specs.Refusal.{no, _then_}
 use Rattle.union_array.specs.Slots.{inUse, all, columnOf, isSome, childAt, offsetAt, slotAt}
-use Rattle.union_array.specs.Questions.{
-  validId,
-  distinct,
-  partIn,
-  maskIn,
-  columnIn,
-  question1,
-  question2,
-  question3,
-  question4,
-  question5,
-  question6,
-  question7,
-  question8,
-  question10,
-  namedAt,
-  within,
-  withinChild,
-  offsetFits,
-  asked,
-  checked,
-  slotChecked,
-}
+use Rattle.union_array.specs.Questions.{validId, distinct, partIn, maskIn, columnIn, question1, question2, question3, question4, question5, question6, question7, question8, question10, namedAt, within, withinChild, offsetFits, asked, checked, slotChecked}
 use Rattle.union_array.specs.Lookup.{orNone}
 use Rattle.union_array.proofs.Columns.{all-at, all-found}
 

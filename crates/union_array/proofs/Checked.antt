@@ -1,8 +1,7 @@
 -- Questions 7 and 8 as the code asks them. Assumes nothing.
 use mathlib.Core.Bool.{true, false}
 use mathlib.Core.List.{List, []}
-use mathlib.Core.Path.{_≡_, refl, sym, ap, _∙_}
-use Prim.Native.Nat.{ℕ}
+use mathlib.Core.Path.{_≡_, refl, sym, ap}
 use lib.IntN.{ℤ}
 use Rattle.bitmap.specs.Lists.{every}
 use Rattle.bitmap.proofs.Tables.{every-ext, every-all}

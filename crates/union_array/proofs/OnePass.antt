@@ -1,10 +1,9 @@
 -- Laws of the one pass: a column more, the first no by the least, and the whole answer.
 use mathlib.Core.Bool.{Bool, true, false, cond, not, _&&_, _||_}
-use mathlib.Core.Option.{Option, none, some}
+use mathlib.Core.Option.{none, some}
 use mathlib.Core.List.{List, [], _∷_, _++_}
 use mathlib.Core.Path.{_≡_, refl, sym, ap, _∙_}
 use Prim.Native.Nat.{ℕ, zero, suc, _+_, _≤_, _<_}
-use native.Mathlib.Nat.{not-le-of-lt}
 use native.Mathlib.Omega.{arith}
 use lib.Dec.{eqb, ltb, leb}
 use lib.IntN.{ℤ, pos, negsuc}
@@ -13,12 +12,12 @@ use lib.Seq.{getD-set-same, getD-set-other}
 use borrow.Author.Tests.{lt-ltb, le-ltb, le-leb, lt-leb, eq-eqb, ne-eqb, eqb-true, eqb-false, ltb-true}
 use Rattle.bitmap.specs.Bits.{sameId}
 use Rattle.union_array.specs.Types.{Layout, Sparse, Dense, Column, UnionArray, Amounts, noColumn, byLayout}
-use Rattle.union_array.specs.Refusal.{no, _then_, ifYes}
+use Rattle.union_array.specs.Refusal.{no, _then_}
 use Rattle.union_array.specs.Slots.{inUse, all, columnOf, isSome}
 use Rattle.union_array.specs.Questions.{validId, distinct, columnIn, partIn, question1, question2, question3, question4, question5, question6, asked}
 use Rattle.union_array.specs.Lookup.{orNone}
-use Rattle.union_array.specs.Look.{Looked, notLooked, lookOf}
-use Rattle.union_array.specs.Pass.{Head, Passed, isDense, arrayOf, entryOf, faultOf, columnFault, columnsFault, leastOf, passOf, firstNo}
+use Rattle.union_array.specs.Look.{notLooked, lookOf}
+use Rattle.union_array.specs.Pass.{Head, Passed, isDense, arrayOf, entryOf, faultOf, columnFault, columnsFault, leastOf, passOf, headFault, firstNo}
 use Rattle.union_array.proofs.Tests.{refused-is}
 use Rattle.union_array.proofs.Columns.{orElse, take-more, all-more, column-more, named-more, distinct-more}
 
@@ -196,27 +195,58 @@ module _ (lent : Amounts) (n : ℕ) (dense : Bool) (id : ℤ) (cs : List Column)
 -- ---- the first no
 
 chain : (a b c d q2 p o n4 s5 : Bool)
-    → (no 1 (not (eqb (faultOf a b c d) 1)) then no 2 q2 then no 3 (p && (o && not (eqb (faultOf a b c d) 3))) then no 4 (n4 && not (eqb (faultOf a b c d) 4)) then no 5 s5 then no 6 (not (eqb (faultOf a b c d) 6)))
+    → cond (eqb (leastOf (faultOf a b c d) (no 2 q2 then no 3 p then no 3 o then no 4 n4 then no 5 s5 then 7)) 7) 0
+    (leastOf (faultOf a b c d) (no 2 q2 then no 3 p then no 3 o then no 4 n4 then no 5 s5 then 7))
     ≡ (no 1 a then no 2 q2 then no 3 (p && (o && b)) then no 4 (n4 && c) then no 5 s5 then no 6 d)
-chain false b c d q2 p o n4 s5 = refl
-chain true false c d q2 false o n4 s5 = refl
-chain true false c d q2 true false n4 s5 = refl
-chain true false c d q2 true true n4 s5 = refl
-chain true true false d q2 p o false s5 = refl
-chain true true false d q2 p o true s5 = refl
-chain true true true false q2 p o n4 s5 = refl
-chain true true true true q2 p o n4 s5 = refl
+chain false b c d false p o n4 s5 = refl
+chain false b c d true false o n4 s5 = refl
+chain false b c d true true false n4 s5 = refl
+chain false b c d true true true false s5 = refl
+chain false b c d true true true true false = refl
+chain false b c d true true true true true = refl
+chain true false c d false p o n4 s5 = refl
+chain true false c d true false o n4 s5 = refl
+chain true false c d true true false n4 s5 = refl
+chain true false c d true true true false s5 = refl
+chain true false c d true true true true false = refl
+chain true false c d true true true true true = refl
+chain true true false d false p o n4 s5 = refl
+chain true true false d true false o n4 s5 = refl
+chain true true false d true true false n4 s5 = refl
+chain true true false d true true true false s5 = refl
+chain true true false d true true true true false = refl
+chain true true false d true true true true true = refl
+chain true true true false false p o n4 s5 = refl
+chain true true true false true false o n4 s5 = refl
+chain true true true false true true false n4 s5 = refl
+chain true true true false true true true false s5 = refl
+chain true true true false true true true true false = refl
+chain true true true false true true true true true = refl
+chain true true true true false p o n4 s5 = refl
+chain true true true true true false o n4 s5 = refl
+chain true true true true true true false n4 s5 = refl
+chain true true true true true true true false s5 = refl
+chain true true true true true true true true false = refl
+chain true true true true true true true true true = refl
 
 by-dense : (l : Layout) (b : Bool) → byLayout l b true ≡ isDense l || b
 by-dense Sparse b = refl
 by-dense Dense b = refl
 
+pub first-none : (a b : ℕ) → leastOf a b ≡ 7 → 0 ≡ firstNo a b
+unfolding firstNo
+first-none a b h = rw (eq-eqb (leastOf a b) 7 h)
+
+pub first-some : (a b k : ℕ) → k ≡ leastOf a b → (k ≡ 7 → ⊥) → k ≡ firstNo a b
+unfolding firstNo
+first-some a b k e h = e ∙ rw (ne-eqb (leastOf a b) 7 (λ z. h (e ∙ z)))
+
 module _ (h : Head) (cs : List Column) (lent : Amounts) where
   abbrev a : UnionArray
   a = arrayOf h cs
 
-  pub asked-by : h .fields ≤ 128 → firstNo (columnsFault lent (h .count) (isDense (h .layout)) (take (h .fields) cs)) h lent ≡ asked a lent
-  unfolding firstNo columnsFault asked question1 question3 question4 question5 question6
+  pub asked-by : h .fields ≤ 128 → firstNo (columnsFault lent (h .count) (isDense (h .layout)) (take (h .fields) cs)) (headFault h lent) ≡ asked a lent
+  unfolding firstNo headFault columnsFault asked question1 question3 question4 question5 question6
   asked-by l =
       rw (le-leb (h .fields) 128 l, by-dense (h .layout) (all (λ c. eqb (c .slots) (h .count)) (inUse a)))
       (chain (all (λ c. validId (c .id)) (inUse a) && distinct (inUse a)) (all (columnIn lent) (inUse a)) (all (λ c. leb (c .slots) 65536) (inUse a))
@@ -224,9 +254,9 @@ module _ (h : Head) (cs : List Column) (lent : Amounts) where
       (question2 a) (partIn (h .start) (h .count) (lent .ids)) (byLayout (h .layout) true (partIn (h .«offsets_start») (h .«offsets_count») (lent .offsets)))
       (leb (h .count) 65536) (byLayout (h .layout) true (eqb (h .«offsets_count») (h .count))))
 
-  pub asked-is : (dense : Bool) (k r : ℕ) → h .fields ≤ 128 → dense ≡ isDense (h .layout) → k ≡ columnsFault lent (h .count) dense (take (h .fields) cs)
-      → r ≡ firstNo k h lent → r ≡ asked a lent
-  asked-is dense k r l e p q = q ∙ rw (p, e) (asked-by l)
+  pub asked-is : (dense : Bool) (k f r : ℕ) → h .fields ≤ 128 → dense ≡ isDense (h .layout) → k ≡ columnsFault lent (h .count) dense (take (h .fields) cs)
+      → f ≡ headFault h lent → r ≡ firstNo k f → r ≡ asked a lent
+  asked-is dense k f r l e p q s = s ∙ rw (p, q, e) (asked-by l)
 
   pub asked-many : 128 < h .fields → asked a lent ≡ 1
   unfolding asked question1

@@ -1,25 +1,19 @@
 -- What a child's mask says of its slots, one by one, 64 at a time, and counted. Assumes nothing.
 use mathlib.Core.Path.{_≡_, refl, sym, ap, ap₂, _∙_}
-use mathlib.Core.Bool.{Bool, true, false, not, _&&_, _||_}
-use mathlib.Core.List.{List}
+use mathlib.Core.Bool.{true, false, not, _&&_}
 use Prim.Native.Nat.{ℕ, _+_, _-_, _*_, _%_, _^_, _≤_, _<_, min}
 use native.Mathlib.Nat.{add-assoc, le-of-suc-le-suc, lt-of-not-le}
 use native.Mathlib.Decide.{decLt}
 use native.Mathlib.Omega.{arith}
-use borrow.Author.Tests.{leb-true, lt-ltb, le-ltb}
-use lib.Dec.{ltb, leb}
+use borrow.Author.Tests.{lt-ltb, le-ltb}
+use lib.Dec.{ltb}
 use Rattle.bitmap.specs.Bits.{pack, count, bitAt, chunkOf}
 use Rattle.bitmap.specs.Counting.{clearIn}
 use Rattle.bitmap.proofs.Words.{count-le, pack-ext, pack-none, not-pack, low-pack}
 use Rattle.bitmap.proofs.Counts.{word-fits, word-clear}
-use Rattle.union_array.specs.Types.{Column, firstBit}
+use Rattle.union_array.specs.Types.{Column}
 use Rattle.union_array.specs.Buffers.{Buffers, onlyMasks}
 use Rattle.union_array.specs.Slots.{present, presenceChunk, nullsIn}
-use Rattle.union_array.specs.Questions.{maskIn}
-
--- a mask that is there lies in the lent words
-pub mask-fits : (c : Column) (lent : ℕ) → maskIn c lent ≡ true → c .masked ≡ true → firstBit c + c .slots ≤ 64 * lent
-mask-fits c lent h e = leb-true (firstBit c + c .slots) (64 * lent) (rw e at h)
 
 -- only the mask words matter
 pub present-masks : (c : Column) (m : Buffers) (p : ℕ) → present c m p ≡ present c (onlyMasks (m .masks)) p

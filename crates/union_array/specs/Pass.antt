@@ -47,11 +47,7 @@ entryOf (negsuc n) = 255
 
 -- the least number answered no, of 1, 3, 4 and 6; 7 if there is none
 abbrev pub faultOf : Bool → Bool → Bool → Bool → ℕ
-faultOf false b c d = 1
-faultOf true false c d = 3
-faultOf true true false d = 4
-faultOf true true true false = 6
-faultOf true true true true = 7
+faultOf a b c d = no 1 a then no 3 b then no 4 c then no 6 d then 7
 
 -- of one column, of an array with n slots; `again`: a column before it has its id
 unfoldable pub columnFault : Amounts → ℕ → Bool → Bool → Column → ℕ
@@ -75,14 +71,16 @@ passOf lent n dense id cs = record {
   found = isSome (columnOf cs id);
 }
 
--- the first no of 1 to 6, by the least of the columns
-unfoldable pub firstNo : ℕ → Head → Amounts → ℕ
-firstNo k h lent =
-    no 1 (not (eqb k 1))
-    then no 2 (eqb (h .children) (h .fields))
-    then no 3
-    (partIn (h .start) (h .count) (lent .ids)
-    && (byLayout (h .layout) true (partIn (h .«offsets_start») (h .«offsets_count») (lent .offsets)) && not (eqb k 3)))
-    then no 4 (leb (h .count) 65536 && not (eqb k 4))
+-- of an array but for its columns, the least number answered no, of 2, 3, 4 and 5; 7 if there is none
+unfoldable pub headFault : Head → Amounts → ℕ
+headFault h lent =
+    no 2 (eqb (h .children) (h .fields))
+    then no 3 (partIn (h .start) (h .count) (lent .ids))
+    then no 3 (byLayout (h .layout) true (partIn (h .«offsets_start») (h .«offsets_count») (lent .offsets)))
+    then no 4 (leb (h .count) 65536)
     then no 5 (byLayout (h .layout) true (eqb (h .«offsets_count») (h .count)))
-    then no 6 (not (eqb k 6))
+    then 7
+
+-- the first no of 1 to 6: the least of both, 0 if there is none
+unfoldable pub firstNo : ℕ → ℕ → ℕ
+firstNo a b = cond (eqb (leastOf a b) 7) 0 (leastOf a b)

@@ -2,12 +2,12 @@
 ghost use mathlib.Core.Path.{_≡_};
 ghost use mathlib.Core.Bool.{true, cond, _&&_};
 ghost use Prim.Native.Nat.{_+_, _*_, _<_, _≤_};
-ghost use lib.Dec.{eqb, leb};
+ghost use lib.Dec.{eqb};
 ghost use lib.ListN.{take};
 ghost use Rattle.union_array.specs.Types.{byLayout, noColumn};
 ghost use Rattle.union_array.specs.Questions.{validId, partIn, columnIn, asked};
 ghost use Rattle.union_array.specs.Look.{notLooked, lookOf};
-ghost use Rattle.union_array.specs.Pass.{isDense, headOf, arrayOf, entryOf, columnFault, leastOf, passOf, firstNo};
+ghost use Rattle.union_array.specs.Pass.{isDense, headOf, arrayOf, entryOf, columnFault, leastOf, passOf, headFault, firstNo};
 use crate::Amounts;
 use crate::Column;
 use crate::Head;
@@ -208,13 +208,10 @@ fn pass(
     }
 }
 
-// The first no of 1 to 6, k being the least of the columns.
-fn first_no(k: u8, h: Head, lent: Amounts) -> u8
-    ensures { λ r. ⌜ r ≡ firstNo k h lent ⌝ }
+// The least of 2, 3, 4 and 5 that an array answers no, but for its columns; 7 if there is none.
+fn head_fault(h: Head, lent: Amounts) -> u8
+    ensures { λ r. ⌜ r ≡ headFault h lent ⌝ }
 {
-    if k == 1 {
-        return 1;
-    }
     if h.children != h.fields {
         return 2;
     }
@@ -225,22 +222,24 @@ fn first_no(k: u8, h: Head, lent: Amounts) -> u8
     if !offsets_in(l, h.offsets_start, h.offsets_count, lent.offsets) {
         return 3;
     }
-    if k == 3 {
-        return 3;
-    }
     if 65536 < h.count {
-        return 4;
-    }
-    if k == 4 {
         return 4;
     }
     if !offsets_match(l, h.offsets_count, h.count) {
         return 5;
     }
-    if k == 6 {
-        return 6;
+    7
+}
+
+// The first no of 1 to 6: the least of both, 0 if there is none.
+fn first_no(a: u8, b: u8) -> u8
+    ensures { λ r. ⌜ r ≡ firstNo a b ⌝ }
+{
+    let k = least(a, b);
+    if k == 7 {
+        return 0;
     }
-    0
+    k
 }
 
 fn head_of(a: UnionArray) -> Head
@@ -277,7 +276,7 @@ fn look_in(h: Head, columns: [Column; 128], lent: Amounts, id: i8) -> Looked
     }
     let l = h.layout;
     let p = pass(columns, h.fields, lent, h.count, is_dense(l), id);
-    let r = first_no(p.fault, h, lent);
+    let r = first_no(p.fault, head_fault(h, lent));
     if r != 0 {
         return refused(r);
     }

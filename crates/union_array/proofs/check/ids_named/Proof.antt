@@ -1,8 +1,8 @@
 -- `ids_named` meets its contract. Of the outer loop: each slot passed names a field. Of the inner one: no column passed has the slot's id.
-use Prim.Native.Nat.{ℕ, _+_, _-_, _≤_, _<_}
-use mathlib.Core.Bool.{Bool, true, false}
+use Prim.Native.Nat.{_-_, _≤_}
+use mathlib.Core.Bool.{true, false}
 use mathlib.Core.List.{[]}
-use mathlib.Core.Path.{_≡_, refl, sym, ap, _∙_}
+use mathlib.Core.Path.{_≡_, sym, _∙_}
 use native.Mathlib.Omega.{arith}
 use borrow.Author.Needs.{needs}
 use lib.ListN.{length, length-map, getD, take}

@@ -1,14 +1,14 @@
 -- `offsets_within` meets its contract: the table has the slots of the column that slot i's type id names.
-use Prim.Native.Nat.{ℕ, _+_, _-_, _≤_, _<_}
+use Prim.Native.Nat.{ℕ, _-_, _≤_}
 use mathlib.Core.Bool.{Bool, true}
 use mathlib.Core.List.{List}
 use mathlib.Core.Path.{_≡_, refl, sym, ap, _∙_}
 use native.Mathlib.Omega.{arith}
 use borrow.Author.Needs.{needs}
 use borrow.Author.Tests.{not-true, not-false}
-use lib.IntN.{ℤ, pos}
-use lib.ListN.{length, getD}
-use mir.Syntax.{w8, w32}
+use lib.IntN.{ℤ}
+use lib.ListN.{length}
+use mir.Syntax.{w32}
 use mir.Facts.{toZ-ofZ}
 use Rattle.bitmap.specs.Lists.{every}
 use Rattle.bitmap.proofs.Tables.{every-more, every-no}
@@ -16,7 +16,7 @@ use Rattle.union_array.specs.Types.{UnionArray}
 use Rattle.union_array.specs.Slots.{inUse, typeIdAt, offsetAt, childAt}
 use Rattle.union_array.specs.Questions.{within, withinChild}
 use Rattle.union_array.specs.Pass.{entryOf}
-use Rattle.union_array.specs.Check.{onlySlots, slotTable}
+use Rattle.union_array.specs.Check.{onlySlots}
 use Rattle.union_array.proofs.Signed.{id-read}
 use Rattle.union_array.proofs.SlotTable.{table-length, table-within}
 use Rattle.union_array.proofs.check.offsets_within.Statement.{statement}

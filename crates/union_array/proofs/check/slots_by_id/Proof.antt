@@ -1,14 +1,13 @@
 -- `slots_by_id` meets its contract: the table is that of the columns from place j on.
-use Prim.Native.Nat.{ℕ, _-_, _≤_, _<_}
-use mathlib.Core.Path.{_≡_, refl, sym, ap, _∙_}
+use Prim.Native.Nat.{_-_, _≤_}
+use mathlib.Core.Path.{_≡_}
 use native.Mathlib.Omega.{arith}
 use borrow.Author.Needs.{needs}
 use lib.ListN.{length, getD, take, drop}
 use Rattle.union_array.specs.Types.{noColumn}
-use Rattle.union_array.specs.Pass.{entryOf}
 use Rattle.union_array.specs.Check.{slotTable}
 use Rattle.union_array.proofs.Signed.{id-read}
-use Rattle.union_array.proofs.SlotTable.{table-length, table-none, table-turn}
+use Rattle.union_array.proofs.SlotTable.{table-none, table-turn}
 use Rattle.union_array.proofs.check.slots_by_id.Statement.{statement}
 use Rattle.union_array.proofs.check.slots_by_id.Tie as tie
 

@@ -1,14 +1,11 @@
-use mathlib.Core.Path.{_≡_, sym, _∙_, ap}
+use mathlib.Core.Path.{_∙_}
 use native.Mathlib.Omega.{arith}
-use lib.ListN.{length}
-use Rattle.union_array.specs.Buffers.{onlyMasks}
-use Rattle.union_array.proofs.Present.{mask-fits, by-mask, no-mask}
+use Rattle.union_array.specs.Buffers.{onlyMasks, amountsOf}
+use Rattle.union_array.proofs.Accepted.{mask-part}
+use Rattle.union_array.proofs.Present.{by-mask, no-mask}
 use borrow.Author.Needs.{needs}
 use Rattle.union_array.proofs.presence.is_present.Statement.{statement}
 use Rattle.union_array.proofs.presence.is_present.Tie as tie
-use Rattle.union_array.proofs.presence.is_present.Reads as reads
-use Rattle.union_array.proofs.presence.is_present.Lts as lts
-use Rattle.bitmap.proofs.get_bit.Reads as get-bit-reads
 
 cast-get-bit : tie.Need-cast-get-bit
 cast-get-bit c = search needs
@@ -19,7 +16,7 @@ add-get-bit c = search needs
 get-bit-requires : tie.Need-get-bit-requires
 get-bit-requires c κs =
     let s = c .before .before .before in
-    omega (arith, mask-fits (s .args .c) (length (s .args .masks .now)) (s .pre .1) (c .before .if1 .taken))
+    omega (arith, mask-part (amountsOf (onlyMasks (s .args .masks .now))) (s .args .c) (s .pre .1) (c .before .if1 .taken))
 
 returns : tie.Need-returns
 returns c =

@@ -1,18 +1,11 @@
 use borrow.Author.Needs.{needs}
 use mathlib.Core.Path.{_≡_, sym, ap, _∙_}
 use native.Mathlib.Omega.{arith}
-use lib.ListN.{length}
 use Rattle.union_array.specs.Buffers.{onlyMasks}
-use Prim.Native.Nat.{ℕ, _+_, _-_, _*_, _≤_, min}
+use Prim.Native.Nat.{_+_, _-_, _*_, _≤_, min}
 use Rattle.union_array.proofs.Present.{nullsBelow, below-none, below-le, below-all, chunk-fits, chunk-turn}
 use Rattle.union_array.proofs.presence.null_count.Statement.{statement}
 use Rattle.union_array.proofs.presence.null_count.Tie as tie
-use Rattle.union_array.proofs.presence.null_count.Reads as reads
-use Rattle.union_array.proofs.presence.null_count.Lts as lts
-use Rattle.bitmap.proofs.counted.Reads as counted-reads
-use Rattle.bitmap.proofs.empty_count.Reads as empty-count-reads
-use Rattle.bitmap.proofs.span.Reads as span-reads
-use Rattle.union_array.proofs.presence.presence_chunk.Reads as presence-chunk-reads
 
 abbrev Inv-loop : tie.InvT-loop
 Inv-loop c masks len n₀ k₀ n k = (64 * k ≤ len + 63) × (n .nulls ≡ nullsBelow c (onlyMasks masks) (min (64 * k) len))

@@ -1,16 +1,11 @@
-use mathlib.Core.Path.{_≡_, sym, ap, _∙_}
+use mathlib.Core.Path.{_∙_}
 use native.Mathlib.Omega.{arith}
-use lib.ListN.{length}
-use Rattle.union_array.specs.Buffers.{onlyMasks}
-use Rattle.union_array.proofs.Present.{mask-fits, chunk-masked, chunk-free}
+use Rattle.union_array.specs.Buffers.{onlyMasks, amountsOf}
+use Rattle.union_array.proofs.Accepted.{mask-part}
+use Rattle.union_array.proofs.Present.{chunk-masked, chunk-free}
 use borrow.Author.Needs.{needs}
 use Rattle.union_array.proofs.presence.presence_chunk.Statement.{statement}
 use Rattle.union_array.proofs.presence.presence_chunk.Tie as tie
-use Rattle.union_array.proofs.presence.presence_chunk.Reads as reads
-use Rattle.union_array.proofs.presence.presence_chunk.Lts as lts
-use Rattle.bitmap.proofs.chunk.Reads as chunk-reads
-use Rattle.bitmap.proofs.low.Reads as low-reads
-use Rattle.bitmap.proofs.span.Reads as span-reads
 
 cast-chunk : tie.Need-cast-chunk
 cast-chunk c = search needs
@@ -18,7 +13,7 @@ cast-chunk c = search needs
 chunk-requires : tie.Need-chunk-requires
 chunk-requires c κs =
     let s = c .before .before .before in
-    omega (arith, mask-fits (s .args .c) (length (s .args .masks .now)) (s .pre .2) (c .before .if1 .taken))
+    omega (arith, mask-part (amountsOf (onlyMasks (s .args .masks .now))) (s .args .c) (s .pre .2) (c .before .if1 .taken))
 
 returns : tie.Need-returns
 returns c =

@@ -1,4 +1,4 @@
-use mathlib.Core.Path.{_≡_, ap}
+use mathlib.Core.Path.{ap}
 use borrow.Author.Needs.{needs}
 use Rattle.union_array.specs.Look.{Looked, lookOf}
 use Rattle.union_array.proofs.questions.ask.Statement.{statement}

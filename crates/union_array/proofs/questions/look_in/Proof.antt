@@ -1,4 +1,4 @@
-use mathlib.Core.Path.{_≡_, refl, sym, ap, _∙_}
+use mathlib.Core.Path.{_≡_, sym, ap, _∙_}
 use native.Mathlib.Omega.{arith}
 use borrow.Author.Needs.{needs}
 use mir.Facts.{toZ-ofZ}
@@ -9,13 +9,17 @@ use Rattle.union_array.proofs.questions.look_in.Statement.{statement}
 use Rattle.union_array.proofs.questions.look_in.Tie as tie
 
 -- the calls tell the first no
-told : (c : tie.After-first-no) → let a = c .before .before .before .before .before .args in c .first-no .result ≡ asked (arrayOf (a .h) (a .columns)) (a .lent)
+told : (c : tie.After-first-no) → let a = c .before .before .before .before .before .before .args in c .first-no .result ≡ asked (arrayOf (a .h) (a .columns)) (a .lent)
 told c =
-    let p = c .before in
+    let h = c .before in
+    let p = h .before in
     let e = p .before .before in
     let a = e .before .before .args in
-    asked-is (a .h) (a .columns) (a .lent) (p .before .is-dense .result) (p .pass .result .fault) (c .first-no .result) (e .if1 .left) (p .before .is-dense .ensures)
-    (ap (λ (x : Passed). x .fault) (p .pass .ensures)) (c .first-no .ensures)
+    asked-is (a .h) (a .columns) (a .lent) (p .before .is-dense .result) (p .pass .result .fault) (h .head-fault .result) (c .first-no .result) (e .if1 .left)
+    (p .before .is-dense .ensures)
+    (ap (λ (x : Passed). x .fault) (p .pass .ensures))
+    (h .head-fault .ensures)
+    (c .first-no .ensures)
 
 refused-requires : tie.Need-refused-requires
 refused-requires c κs = search needs
@@ -32,6 +36,9 @@ is-dense-requires c κs = search needs
 pass-requires : tie.Need-pass-requires
 pass-requires c κs = search needs
 
+head-fault-requires : tie.Need-head-fault-requires
+head-fault-requires c κs = search needs
+
 first-no-requires : tie.Need-first-no-requires
 first-no-requires c κs = search needs
 
@@ -41,13 +48,13 @@ refused-requires-2 c κs = search needs
 returns-2 : tie.Need-returns-2
 returns-2 c =
     let f = c .before .before in
-    let a = f .before .before .before .before .before .args in
+    let a = f .before .before .before .before .before .before .args in
     c .refused2 .ensures ∙ look-refused (arrayOf (a .h) (a .columns)) (a .lent) (a .id) (f .first-no .result) (sym (told f)) (c .before .if2 .taken)
 
 returns-3 : tie.Need-returns-3
 returns-3 c =
     let f = c .before .before in
-    let p = f .before in
+    let p = f .before .before in
     let s = p .before .before .before .before in
     let a = s .args in
     look-accepted (arrayOf (a .h) (a .columns)) (a .lent) (a .id) (p .pass .result) (a .h .count) (p .before .is-dense .result)
@@ -62,6 +69,7 @@ look-in-spec =
     returns
     is-dense-requires
     pass-requires
+    head-fault-requires
     first-no-requires
     refused-requires-2
     returns-2

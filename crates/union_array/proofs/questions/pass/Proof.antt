@@ -1,21 +1,15 @@
 -- `pass` meets its contract. Of the columns passed: the least number answered no, the place of the one with the id, and the ids seen.
-use Prim.Native.Nat.{ℕ, _+_, _-_, _≤_, _<_}
-use mathlib.Core.Bool.{Bool, true, false, cond}
-use mathlib.Core.Option.{Option, none, some}
-use mathlib.Core.List.{List}
-use mathlib.Core.Path.{_≡_, refl, sym, ap, _∙_}
+use Prim.Native.Nat.{_-_, _≤_, _<_}
+use mathlib.Core.Path.{_≡_}
 use native.Mathlib.Omega.{arith}
 use borrow.Author.Needs.{needs}
-use borrow.Author.Tests.{lt-ltb, le-ltb}
-use lib.IntN.{ℤ}
+use borrow.Author.Tests.{le-ltb}
 use lib.ListN.{length, getD, take}
 use mir.Syntax.{w8}
 use mir.Val.{toZ, ofZ}
 use Rattle.bitmap.specs.Bits.{sameId}
 use mir.Facts.{toZ-ofZ}
-use Rattle.union_array.specs.Types.{Column, noColumn}
-use Rattle.union_array.specs.Slots.{columnOf, isSome}
-use Rattle.union_array.specs.Lookup.{orNone}
+use Rattle.union_array.specs.Types.{noColumn}
 use Rattle.union_array.specs.Pass.{columnsFault, entryOf}
 use Rattle.union_array.proofs.Signed.{id-read}
 use Rattle.union_array.proofs.OnePass.{Seen, unseen, no-fault, Placed, fault-turn, placed-turn, seen-turn, none-placed, one-placed, pass-none, pass-one}

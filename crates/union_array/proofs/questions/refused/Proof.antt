@@ -1,6 +1,4 @@
-use mathlib.Core.Path.{ap}
 use borrow.Author.Needs.{needs}
-use Rattle.union_array.specs.Types.{Column}
 use Rattle.union_array.proofs.questions.refused.Statement.{statement}
 use Rattle.union_array.proofs.questions.refused.Tie as tie
 
