@@ -46,7 +46,7 @@ unfolding stateOf nullsIn present
 same-fields m cs = refl
 
 -- values and names do not say what is null
-null-same : (ids offsets : List ℤ) (values names masks : List ℕ) (o : Option Column) (p : ℕ)
+pub null-same : (ids offsets : List ℤ) (values names masks : List ℕ) (o : Option Column) (p : ℕ)
     → nullIn o (buffersOf ids offsets values masks names) p ≡ nullIn o (reads ids offsets masks) p
 unfolding present
 null-same ids offsets values names masks none p = refl

@@ -5,6 +5,8 @@ pub mod states;
 pub mod steps;
 pub mod table;
 pub mod words;
+pub mod mask;
+pub mod named;
 
 // The processor setting: what gathering costs, against one selection mask a chunk.
 pub struct Processor {
