@@ -1,4 +1,6 @@
 // The union builder: its state by value, the memory that it fills lent to each call.
+pub mod order;
+
 use union_array::Kind;
 use union_array::Layout;
 use union_array::UnionArray;
