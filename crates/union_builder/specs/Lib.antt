@@ -4,3 +4,4 @@ pub mod Names
 pub mod Builder
 pub mod Append
 pub mod Finish
+pub mod Inner

@@ -1,0 +1,4 @@
+-- The laws that the proofs of union_builder cite.
+pub mod Ranges
+pub mod Same
+pub mod Asking
