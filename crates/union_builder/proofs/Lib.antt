@@ -3,3 +3,7 @@ pub mod NameOrder
 pub mod IdOrder
 pub mod Shifts
 pub mod Listing
+-- The laws that the proofs of union_builder cite.
+pub mod Ranges
+pub mod Same
+pub mod Asking

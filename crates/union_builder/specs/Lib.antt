@@ -5,3 +5,4 @@ pub mod Builder
 pub mod Append
 pub mod Finish
 pub mod Order
+pub mod Inner

@@ -1,5 +1,8 @@
 // The union builder: its state by value, the memory that it fills lent to each call.
 pub mod order;
+pub mod names;
+pub mod questions;
+pub mod utf8;
 
 use union_array::Kind;
 use union_array::Layout;
@@ -47,4 +50,11 @@ pub struct Finished {
     pub builder: UnionBuilder,
     pub array: UnionArray,
     pub refusal: u8,
+}
+
+// The bytes that a character still wants: `left` of them, the next from `low` to `high`, each later one from 0x80 to 0xbf.
+pub struct Expected {
+    pub low: u8,
+    pub high: u8,
+    pub left: u8,
 }
