@@ -6,3 +6,5 @@ pub mod Slots
 pub mod Questions
 pub mod Lookup
 pub mod Slices
+pub mod Look
+pub mod Pass
