@@ -3,6 +3,8 @@ pub mod NameOrder
 pub mod IdOrder
 pub mod Shifts
 pub mod Listing
+pub mod Describing
+pub mod Finishing
 -- The laws that the proofs of union_builder cite.
 pub mod Ranges
 pub mod Same

@@ -6,3 +6,4 @@ pub mod Append
 pub mod Finish
 pub mod Order
 pub mod Inner
+pub mod Describe

@@ -1,6 +1,7 @@
 // The union builder: its state by value, the memory that it fills lent to each call.
-pub mod order;
+pub mod finish;
 pub mod names;
+pub mod order;
 pub mod questions;
 pub mod utf8;
 
