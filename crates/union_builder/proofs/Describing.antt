@@ -1,13 +1,12 @@
 -- Describing: the steps of its functions, and the array that they come to.
 -- Assumes nothing.
 use mathlib.Core.Path.{_≡_, refl, sym, ap, ap₂, _∙_}
-use mathlib.Core.Bool.{Bool, true, false}
 use mathlib.Core.List.{List, [], _∷_, _++_, map}
-use Prim.Native.Nat.{ℕ, zero, suc, _+_, _-_, _*_, _^_, _≤_, _<_}
+use Prim.Native.Nat.{ℕ, zero, suc, _+_, _-_, _*_, _≤_, _<_}
 use native.Mathlib.Nat.{le-of-suc-le-suc, not-suc-le-zero, sub-zero}
 use native.Mathlib.Omega.{arith}
-use lib.IntN.{ℤ, pos}
-use lib.ListN.{length, getD, take, drop, set, replicate, length-replicate}
+use lib.IntN.{ℤ}
+use lib.ListN.{length, getD, take, drop, set, replicate}
 use mir.Syntax.{w8}
 use mir.Val.{toZ}
 use mir.Facts.{toZ-pos}
@@ -22,7 +21,7 @@ use Rattle.union_array.specs.Buffers.{Buffers}
 use Rattle.union_builder.specs.Builder.{BuilderColumn, UnionBuilder, column, nameAt}
 use Rattle.union_builder.specs.Finish.{Named, ordered, assembled, finishedColumn, namedColumn, describe}
 use Rattle.union_builder.specs.Order.{nameBy, orderedIds, NamesHeld, Listed}
-use Rattle.union_builder.specs.Describe.{sizesOf, blankOf, columnFrom, filled, filledOf, Fillable, Describable}
+use Rattle.union_builder.specs.Describe.{sizesOf, blankOf, columnFrom, filled, relisted, filledOf, Fillable, Describable}
 use Rattle.union_builder.proofs.IdOrder.{ordered-by-id, ordered-ext}
 use Rattle.union_builder.proofs.Listing.{listed-id}
 
@@ -75,19 +74,6 @@ column-is d k c w h e =
       kind = d .kind;
       masked = d .masked;
     }) e (toZ-pos w8 h)
-
--- an array with its columns replaced
-abbrev pub relisted : UnionArray → List Column → UnionArray
-relisted a cs = record {
-  columns = cs;
-  fields = a .fields;
-  children = a .children;
-  start = a .start;
-  count = a .count;
-  «offsets_start» = a .«offsets_start»;
-  «offsets_count» = a .«offsets_count»;
-  layout = a .layout;
-}
 
 module _ (b : UnionBuilder) (order : List ℕ) where
   pub fill-none : blankOf (b .layout) (b .len) (b .count) ≡ filledOf b order 0

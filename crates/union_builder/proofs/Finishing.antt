@@ -1,10 +1,9 @@
 -- finish_cloned and finish: what the questions tell describing, and the answers by their refusal.
 -- Assumes nothing.
-use mathlib.Core.Path.{_≡_, refl, sym, ap, ap₂, _∙_}
-use mathlib.Core.Bool.{Bool, true, false, _&&_}
-use Prim.Native.Nat.{ℕ, zero, suc, _*_, _≤_, _<_}
+use mathlib.Core.Path.{_≡_, refl, sym, ap, _∙_}
+use mathlib.Core.Bool.{Bool, true, false}
+use Prim.Native.Nat.{ℕ, zero, suc}
 use native.Mathlib.Omega.{arith}
-use lib.ListN.{length}
 use Rattle.bitmap.specs.Lists.{every}
 use Rattle.bitmap.proofs.Tables.{both, every-at}
 use Rattle.union_array.specs.declared.Amounts.{Amounts}
@@ -13,9 +12,9 @@ use Rattle.union_array.specs.declared.Layout.the-variants.{Sparse}
 use Rattle.union_array.specs.Types.{noArray}
 use Rattle.union_array.specs.Buffers.{Buffers, amountsOf}
 use Rattle.union_array.specs.Refusal.{no, _then_, ifYes}
-use Rattle.union_builder.specs.Builder.{UnionBuilder, column, columnFits, empty, question15, question16, builderChecked}
+use Rattle.union_builder.specs.Builder.{UnionBuilder, columnFits, empty, question15, question16, builderChecked}
 use Rattle.union_builder.specs.Inner.{numbersFit}
-use Rattle.union_builder.specs.Finish.{Finished, assembled, describe, finishClonedOf, finishOf}
+use Rattle.union_builder.specs.Finish.{Finished, describe, finishClonedOf, finishOf}
 use Rattle.union_builder.specs.Describe.{onlyNames, Describable}
 use Rattle.union_builder.proofs.Asking.{parts-15, numbers-yes, lent-yes, column-yes}
 

@@ -51,17 +51,22 @@ columnFrom d k c = record {
 unfoldable pub filled : UnionBuilder → List ℕ → ℕ → List Column
 filled b order i = retable i (λ j. columnFrom (column b (getD order j 0)) (getD order j 0) (b .capacity)) (replicate 128 noColumn)
 
-abbrev pub filledOf : UnionBuilder → List ℕ → ℕ → UnionArray
-filledOf b order i = record {
-  columns = filled b order i;
-  fields = b .count;
-  children = b .count;
-  start = 0;
-  count = b .len;
-  «offsets_start» = 0;
-  «offsets_count» = byLayout (b .layout) 0 (b .len);
-  layout = b .layout;
+-- an array with another list of columns
+abbrev pub relisted : UnionArray → List Column → UnionArray
+relisted a cs = record {
+  columns = cs;
+  fields = a .fields;
+  children = a .children;
+  start = a .start;
+  count = a .count;
+  «offsets_start» = a .«offsets_start»;
+  «offsets_count» = a .«offsets_count»;
+  layout = a .layout;
 }
+
+-- the builder's array with the first i columns filled in
+abbrev pub filledOf : UnionBuilder → List ℕ → ℕ → UnionArray
+filledOf b order i = relisted (blankOf (b .layout) (b .len) (b .count)) (filled b order i)
 
 -- a builder that can be filled in from: few columns and slots, and ids that are among its columns
 pub record Fillable (b : UnionBuilder) (order : List ℕ) : Type 0 where

@@ -4,7 +4,7 @@ ghost use mathlib.Core.List.{_∷_, _++_};
 ghost use Prim.Native.Nat.{_+_, _*_, _<_, _≤_};
 ghost use lib.ListN.{length, take, drop};
 ghost use Rattle.union_builder.specs.Names.{nameUpTo};
-ghost use Rattle.union_builder.specs.Order.{nameBy, leading, goesBefore, orderedIds, NamesHeld, Listed};
+ghost use Rattle.union_builder.specs.Order.{nameBy, leading, goesBefore, NamesHeld, Listed};
 
 // Whether the first name is at most the second, by bytes.
 pub(crate) fn name_up_to(x: &[u8], y: &[u8]) -> bool

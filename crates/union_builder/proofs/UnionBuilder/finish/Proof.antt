@@ -3,20 +3,13 @@ use Rattle.union_builder.proofs.Finishing.{finish-refused, finish-accep
 use borrow.Author.Needs.{needs}
 use Rattle.union_builder.proofs.UnionBuilder.finish.Statement.{statement}
 use Rattle.union_builder.proofs.UnionBuilder.finish.Tie as tie
-use Rattle.union_builder.proofs.UnionBuilder.finish.Reads as reads
-use Rattle.union_builder.proofs.UnionBuilder.finish.Lts as lts
-use Rattle.union_builder.proofs.UnionBuilder.finish_cloned.Reads as finish-cloned-reads
-use Rattle.union_builder.proofs.finish.emptied.Reads as emptied-reads
 
--- src/finish.rt:170:13
 finish-cloned-requires : tie.Need-finish-cloned-requires
 finish-cloned-requires c κs = search needs
 
--- src/finish.rt:172:13
 emptied-requires : tie.Need-emptied-requires
 emptied-requires c κs = search needs
 
--- src/finish.rt:165:5
 returns : tie.Need-returns
 returns c =
     let r = c .before .before .before in
@@ -24,7 +17,6 @@ returns c =
     let m = buffersOf (a .type-ids .now) (a .offsets .now) (a .values .now) (a .masks .now) (a .names .now) in
     finish-accepted (a .self) m (r .finish-cloned .result) (c .emptied .result) (r .finish-cloned .ensures) (c .before .if1 .taken) (c .emptied .ensures)
 
--- src/finish.rt:165:5
 returns-2 : tie.Need-returns-2
 returns-2 c =
     let r = c .before .before in

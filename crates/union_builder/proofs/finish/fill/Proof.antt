@@ -1,15 +1,10 @@
-use mathlib.Core.Path.{_≡_, refl, sym, ap, _∙_}
-use Prim.Native.Nat.{_+_, _-_, _≤_}
+use mathlib.Core.Path.{_≡_, refl, ap, _∙_}
+use Prim.Native.Nat.{_-_, _≤_}
 use native.Mathlib.Omega.{arith}
-use lib.ListN.{length, length-set, replicate}
 use Rattle.union_builder.specs.Describe.{filledOf}
 use Rattle.union_builder.proofs.Describing.{fill-none, fill-turn}
 use Rattle.union_builder.proofs.finish.fill.Statement.{statement}
 use Rattle.union_builder.proofs.finish.fill.Tie as tie
-use Rattle.union_builder.proofs.finish.fill.Reads as reads
-use Rattle.union_builder.proofs.finish.fill.Lts as lts
-use Rattle.union_builder.proofs.finish.blank.Reads as blank-reads
-use Rattle.union_builder.proofs.finish.finished_column.Reads as finished-column-reads
 
 abbrev Inv-loop : tie.InvT-loop
 Inv-loop b order out₀ i₀ i-end out i =
@@ -18,61 +13,49 @@ Inv-loop b order out₀ i₀ i-end out i =
 abbrev μ-loop : tie.MeasureT-loop
 μ-loop b order out₀ i₀ i-end out i = i-end - i
 
--- src/finish.rt:86:19
 blank-requires : tie.Need-blank-requires Inv-loop μ-loop
 blank-requires c κs = tt
 
--- src/finish.rt:87:5
 loop-holds : tie.Need-loop-holds Inv-loop μ-loop
 loop-holds c =
     let a = c .before .args in
     (omega arith, refl, c .blank .ensures ∙ fill-none (a .t1) (a .t2))
 
--- src/finish.rt:88:17
 array-read-k : tie.Need-array-read-k Inv-loop μ-loop
 array-read-k c = let f = c .before .before .before .pre .few in omega arith
 
--- src/finish.rt:88:17
 cast-k : tie.Need-cast-k Inv-loop μ-loop
 cast-k c =
     let s = c .before .before .before in
     omega (arith, s .pre .few, s .pre .ids (c .before .loop .i) (omega arith))
 
--- src/finish.rt:89:17
 mul-c : tie.Need-mul-c Inv-loop μ-loop
 mul-c c =
     let s = c .before .before .before in
     omega (arith, s .pre .few, s .pre .ids (c .before .loop .i) (omega arith))
 
--- src/finish.rt:89:17
 element-copy-out-c : tie.Need-element-copy-out-c Inv-loop μ-loop
 element-copy-out-c c =
     let s = c .before .before .before in
     omega (arith, s .pre .few, s .pre .ids (c .before .loop .i) (omega arith))
 
--- src/finish.rt:90:26
 finished-column-requires : tie.Need-finished-column-requires Inv-loop μ-loop
 finished-column-requires c κs =
     let s = c .before .before .before .before in
     (omega (arith, s .pre .few, s .pre .ids (c .before .before .loop .i) (omega arith)), s .pre .small)
 
--- src/finish.rt:90:9
 mul-t23 : tie.Need-mul-t23 Inv-loop μ-loop
 mul-t23 c = let f = c .before .before .before .before .before .pre .few in omega arith
 
--- src/finish.rt:90:9
 element-set-from-out : tie.Need-element-set-from-out Inv-loop μ-loop
 element-set-from-out c = let f = c .before .before .before .before .before .pre .few in omega arith
 
--- src/finish.rt:87:9
 add-i : tie.Need-add-i Inv-loop μ-loop
 add-i c = omega arith
 
--- src/finish.rt:87:5
 loop-less : tie.Need-loop-less Inv-loop μ-loop
 loop-less c = omega arith
 
--- src/finish.rt:87:5
 loop-again : tie.Need-loop-again Inv-loop μ-loop
 loop-again c =
     let l = c .before .before .before in
@@ -83,7 +66,6 @@ loop-again c =
       fill-turn (s .args .t1) (s .args .t2) (l .loop .i) (l .loop .out) (c .finished-column .result) (omega arith) (l .loop .inv .2) (c .finished-column .ensures),
     )
 
--- src/finish.rt:81:1
 returns : tie.Need-returns Inv-loop μ-loop
 returns c =
     let l = c .before in

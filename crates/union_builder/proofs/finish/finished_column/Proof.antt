@@ -4,33 +4,24 @@ use Rattle.union_builder.proofs.Describing.{column-is}
 use borrow.Author.Needs.{needs}
 use Rattle.union_builder.proofs.finish.finished_column.Statement.{statement}
 use Rattle.union_builder.proofs.finish.finished_column.Tie as tie
-use Rattle.union_builder.proofs.finish.finished_column.Reads as reads
-use Rattle.union_builder.proofs.finish.finished_column.Lts as lts
-use Rattle.bitmap.proofs.words_for.Reads as words-for-reads
 
--- src/finish.rt:68:17
 mul-t5 : tie.Need-mul-t5
 mul-t5 c = omega (arith, small-product (c .args .k) (c .args .capacity) (omega arith) (omega arith))
 
--- src/finish.rt:69:19
 words-for-requires : tie.Need-words-for-requires
 words-for-requires c κs = search needs
 
--- src/finish.rt:69:15
 mul-t7 : tie.Need-mul-t7
 mul-t7 c =
     let w = words-small (c .before .args .capacity) (omega arith) in
     omega (arith, small-product (c .before .args .k) (c .words-for .result) (omega arith) (omega (arith, c .words-for .ensures)))
 
--- src/finish.rt:70:15
 mul-t8 : tie.Need-mul-t8
 mul-t8 c = search needs
 
--- src/finish.rt:74:13
 cast-t9 : tie.Need-cast-t9
 cast-t9 c = search needs
 
--- src/finish.rt:62:1
 returns : tie.Need-returns
 returns c =
     let a = c .before .args in

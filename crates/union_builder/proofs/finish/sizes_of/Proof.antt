@@ -1,5 +1,5 @@
 use mathlib.Core.Path.{_≡_, refl, sym, ap, _∙_}
-use Prim.Native.Nat.{ℕ, _+_, _-_, _≤_}
+use Prim.Native.Nat.{ℕ, _-_, _≤_}
 use native.Mathlib.Omega.{arith}
 use mathlib.Core.List.{List}
 use lib.ListN.{length, length-set, replicate, set}
@@ -9,8 +9,6 @@ use Rattle.union_builder.specs.Builder.{column}
 use Rattle.union_builder.specs.Describe.{sizesOf}
 use Rattle.union_builder.proofs.finish.sizes_of.Statement.{statement}
 use Rattle.union_builder.proofs.finish.sizes_of.Tie as tie
-use Rattle.union_builder.proofs.finish.sizes_of.Reads as reads
-use Rattle.union_builder.proofs.finish.sizes_of.Lts as lts
 
 abbrev Inv-loop : tie.InvT-loop
 Inv-loop b sizes₀ k₀ k-end sizes k =
@@ -19,31 +17,24 @@ Inv-loop b sizes₀ k₀ k-end sizes k =
 abbrev μ-loop : tie.MeasureT-loop
 μ-loop b sizes₀ k₀ k-end sizes k = k-end - k
 
--- src/finish.rt:27:5
 loop-holds : tie.Need-loop-holds Inv-loop μ-loop
 loop-holds c = (omega arith, refl, refl, sym (retable-none _ _))
 
--- src/finish.rt:28:17
 mul-c : tie.Need-mul-c Inv-loop μ-loop
 mul-c c = omega arith
 
--- src/finish.rt:28:17
 element-copy-out-c : tie.Need-element-copy-out-c Inv-loop μ-loop
 element-copy-out-c c = omega arith
 
--- src/finish.rt:29:9
 array-write-sizes : tie.Need-array-write-sizes Inv-loop μ-loop
 array-write-sizes c = omega arith
 
--- src/finish.rt:27:9
 add-k : tie.Need-add-k Inv-loop μ-loop
 add-k c = omega arith
 
--- src/finish.rt:27:5
 loop-less : tie.Need-loop-less Inv-loop μ-loop
 loop-less c = omega arith
 
--- src/finish.rt:27:5
 loop-again : tie.Need-loop-again Inv-loop μ-loop
 loop-again c =
     let l = c .before .before in
@@ -55,7 +46,6 @@ loop-again c =
           ∙ retable-turn (λ j. (column b j) .size) (replicate 128 0) (l .loop .k) ((column b (l .loop .k)) .size) refl (omega arith),
     )
 
--- src/finish.rt:22:1
 returns : tie.Need-returns Inv-loop μ-loop
 unfolding sizesOf
 returns c =

@@ -1,4 +1,4 @@
-use mathlib.Core.Path.{_≡_, refl, sym, ap, ap₂, _∙_}
+use mathlib.Core.Path.{ap₂, _∙_}
 use Prim.Native.Nat.{_+_}
 use native.Mathlib.Omega.{arith}
 use Rattle.union_builder.specs.Names.{nameUpTo}
@@ -6,48 +6,36 @@ use Rattle.union_builder.proofs.Listing.{held-at}
 use borrow.Author.Needs.{needs}
 use Rattle.union_builder.proofs.order.goes_before.Statement.{statement}
 use Rattle.union_builder.proofs.order.goes_before.Tie as tie
-use Rattle.union_builder.proofs.order.goes_before.Reads as reads
-use Rattle.union_builder.proofs.order.goes_before.Lts as lts
-use Rattle.union_builder.proofs.order.name_of.Reads as name-of-reads
-use Rattle.union_builder.proofs.order.name_up_to.Reads as name-up-to-reads
 
--- src/order.rt:42:13
 shared-slice-read-m : tie.Need-shared-slice-read-m
 shared-slice-read-m c = search needs
 
--- src/order.rt:42:13
 cast-m : tie.Need-cast-m
 cast-m c =
     let s = c .before .before .before in
     omega (arith, s .pre .0 .short (s .args .j) (omega arith))
 
--- src/order.rt:43:13
 shared-slice-read-n : tie.Need-shared-slice-read-n
 shared-slice-read-n c = search needs
 
--- src/order.rt:43:13
 cast-n : tie.Need-cast-n
 cast-n c =
     let s = c .before .before .before .before in
     omega (arith, s .pre .0 .short (s .args .k) (omega arith))
 
--- src/order.rt:44:16
 name-of-requires : tie.Need-name-of-requires
 name-of-requires c κs =
     let s = c .before .before .before .before in
     held-at (s .args .names .now) (s .args .sizes .now) (s .args .k + 1) (s .args .j) (s .pre .0) (omega arith)
 
--- src/order.rt:44:38
 name-of-requires-2 : tie.Need-name-of-requires-2
 name-of-requires-2 c κs =
     let s = c .before .before .before .before .before in
     held-at (s .args .names .now) (s .args .sizes .now) (s .args .k + 1) (s .args .k) (s .pre .0) (omega arith)
 
--- src/order.rt:44:5
 name-up-to-requires : tie.Need-name-up-to-requires
 name-up-to-requires c κs = search needs
 
--- src/order.rt:37:1
 returns : tie.Need-returns
 returns c =
     c .name-up-to .ensures ∙ ap₂ nameUpTo (c .before .before .name-of .ensures) (c .before .name-of2 .ensures)

@@ -1,12 +1,10 @@
-use mathlib.Core.Path.{_≡_, refl, sym, ap, _∙_}
-use Prim.Native.Nat.{_+_, _-_, _≤_}
+use mathlib.Core.Path.{_≡_, refl}
+use Prim.Native.Nat.{_+_, _≤_}
 use native.Mathlib.Omega.{arith}
 use lib.ListN.{length, take, drop, length-set}
 use Rattle.union_builder.proofs.Shifts.{shift-none, shift-below, shift-above, shift-done}
 use Rattle.union_builder.proofs.order.insert_at.Statement.{statement}
 use Rattle.union_builder.proofs.order.insert_at.Tie as tie
-use Rattle.union_builder.proofs.order.insert_at.Reads as reads
-use Rattle.union_builder.proofs.order.insert_at.Lts as lts
 
 abbrev Inv-loop : tie.InvT-loop
 Inv-loop order₀ place k i₀ order i =
@@ -19,31 +17,24 @@ Inv-loop order₀ place k i₀ order i =
 abbrev μ-loop : tie.MeasureT-loop
 μ-loop order₀ place k i₀ order i = i
 
--- src/order.rt:59:5
 loop-holds : tie.Need-loop-holds Inv-loop μ-loop
 loop-holds c = (omega arith, omega arith, refl, refl, shift-none (c .args .order .now) (c .args .k))
 
--- src/order.rt:60:26
 sub-order : tie.Need-sub-order Inv-loop μ-loop
 sub-order c = omega arith
 
--- src/order.rt:60:20
 slice-read-order : tie.Need-slice-read-order Inv-loop μ-loop
 slice-read-order c = omega arith
 
--- src/order.rt:60:9
 slice-write-order : tie.Need-slice-write-order Inv-loop μ-loop
 slice-write-order c = omega arith
 
--- src/order.rt:61:9
 sub-i : tie.Need-sub-i Inv-loop μ-loop
 sub-i c = omega arith
 
--- src/order.rt:59:5
 loop-less : tie.Need-loop-less Inv-loop μ-loop
 loop-less c = omega arith
 
--- src/order.rt:59:5
 loop-again : tie.Need-loop-again Inv-loop μ-loop
 loop-again c =
     let l = c .before .before in
@@ -59,19 +50,15 @@ loop-again c =
       shift-above o₀ o k (omega arith) (v .2) i (omega arith) (omega arith) (v .3) (v .4),
     )
 
--- src/order.rt:63:20
 cast-order : tie.Need-cast-order Inv-loop μ-loop
 cast-order c = omega arith
 
--- src/order.rt:63:5
 slice-write-order-2 : tie.Need-slice-write-order-2 Inv-loop μ-loop
 slice-write-order-2 c = omega arith
 
--- src/order.rt:53:1
 same-length : tie.Need-same-length Inv-loop μ-loop
 same-length c = simp length-set (c .before .loop .inv .2)
 
--- src/order.rt:53:1
 returns : tie.Need-returns Inv-loop μ-loop
 returns c =
     let l = c .before in

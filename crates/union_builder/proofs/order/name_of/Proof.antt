@@ -2,30 +2,22 @@ use native.Mathlib.Nat.{add-sub-cancel-left}
 use borrow.Author.Needs.{needs}
 use Rattle.union_builder.proofs.order.name_of.Statement.{statement}
 use Rattle.union_builder.proofs.order.name_of.Tie as tie
-use Rattle.union_builder.proofs.order.name_of.Reads as reads
-use Rattle.union_builder.proofs.order.name_of.Lts as lts
 
--- src/order.rt:31:17
 mul-start : tie.Need-mul-start
 mul-start c = search needs
 
--- src/order.rt:32:15
 add-end : tie.Need-add-end
 add-end c = search needs
 
--- src/order.rt:33:5
 sub-result : tie.Need-sub-result
 sub-result c = search needs
 
--- src/order.rt:33:5
 part-result-start : tie.Need-part-result-start
 part-result-start c = search needs
 
--- src/order.rt:33:5
 part-result-end : tie.Need-part-result-end
 part-result-end c = search needs
 
--- src/order.rt:27:1
 returns : tie.Need-returns
 returns c = rw (add-sub-cancel-left)
 

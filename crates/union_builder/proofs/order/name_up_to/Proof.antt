@@ -1,13 +1,11 @@
 use mathlib.Core.Path.{_≡_, refl, sym, _∙_}
-use Prim.Native.Nat.{_+_, _-_, _≤_}
+use Prim.Native.Nat.{_-_, _≤_}
 use native.Mathlib.Omega.{arith}
 use lib.ListN.{length, drop}
 use Rattle.union_builder.specs.Names.{nameUpTo}
 use Rattle.union_builder.proofs.NameOrder.{up-to-end, up-to-longer, up-to-same, up-to-apart}
 use Rattle.union_builder.proofs.order.name_up_to.Statement.{statement}
 use Rattle.union_builder.proofs.order.name_up_to.Tie as tie
-use Rattle.union_builder.proofs.order.name_up_to.Reads as reads
-use Rattle.union_builder.proofs.order.name_up_to.Lts as lts
 
 abbrev Inv-loop : tie.InvT-loop
 Inv-loop x y i₀ i = (i ≤ length x) × (nameUpTo x y ≡ nameUpTo (drop i x) (drop i y))
@@ -15,34 +13,27 @@ Inv-loop x y i₀ i = (i ≤ length x) × (nameUpTo x y ≡ nameUpTo (drop i x) 
 abbrev μ-loop : tie.MeasureT-loop
 μ-loop x y i₀ i = length x - i
 
--- src/order.rt:14:5
 loop-holds : tie.Need-loop-holds Inv-loop μ-loop
 loop-holds c = (omega arith, refl)
 
--- src/order.rt:16:13
 returns : tie.Need-returns Inv-loop μ-loop
 returns c =
     let l = c .before .before in
     let a = l .before .args in
     sym (l .loop .inv .1 ∙ up-to-longer (a .x .now) (a .y .now) (l .loop .i) (omega arith) (omega arith))
 
--- src/order.rt:18:12
 shared-slice-read-if2 : tie.Need-shared-slice-read-if2 Inv-loop μ-loop
 shared-slice-read-if2 c = omega arith
 
--- src/order.rt:18:20
 shared-slice-read-if2-2 : tie.Need-shared-slice-read-if2-2 Inv-loop μ-loop
 shared-slice-read-if2-2 c = omega arith
 
--- src/order.rt:19:20
 shared-slice-read-result : tie.Need-shared-slice-read-result Inv-loop μ-loop
 shared-slice-read-result c = omega arith
 
--- src/order.rt:19:27
 shared-slice-read-result-2 : tie.Need-shared-slice-read-result-2 Inv-loop μ-loop
 shared-slice-read-result-2 c = omega arith
 
--- src/order.rt:19:13
 returns-2 : tie.Need-returns-2 Inv-loop μ-loop
 returns-2 c =
     let d = c .before .before in
@@ -50,22 +41,18 @@ returns-2 c =
     let a = l .before .args in
     sym (l .loop .inv .1 ∙ up-to-apart (a .x .now) (a .y .now) (l .loop .i) (omega arith) (omega arith) (d .if2 .taken))
 
--- src/order.rt:21:9
 add-i : tie.Need-add-i Inv-loop μ-loop
 add-i c = omega arith
 
--- src/order.rt:14:5
 loop-less : tie.Need-loop-less Inv-loop μ-loop
 loop-less c = omega arith
 
--- src/order.rt:14:5
 loop-again : tie.Need-loop-again Inv-loop μ-loop
 loop-again c =
     let l = c .before .before .before .before .before in
     let a = l .before .args in
     (omega arith, l .loop .inv .1 ∙ up-to-same (a .x .now) (a .y .now) (l .loop .i) (omega arith) (omega arith) (c .if2 .left))
 
--- src/order.rt:10:1
 returns-3 : tie.Need-returns-3 Inv-loop μ-loop
 returns-3 c =
     let l = c .before in

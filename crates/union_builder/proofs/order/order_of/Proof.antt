@@ -1,15 +1,11 @@
-use mathlib.Core.Path.{_≡_, refl, sym, ap, _∙_}
-use Prim.Native.Nat.{_+_, _-_, _≤_}
+use mathlib.Core.Path.{_≡_, refl, sym, _∙_}
+use Prim.Native.Nat.{_-_, _≤_}
 use native.Mathlib.Omega.{arith}
 use lib.ListN.{length}
 use Rattle.union_builder.specs.Order.{nameBy, goesBefore, Listed}
 use Rattle.union_builder.proofs.Listing.{held-less, listed-none, listed-more, place-le}
 use Rattle.union_builder.proofs.order.order_of.Statement.{statement}
 use Rattle.union_builder.proofs.order.order_of.Tie as tie
-use Rattle.union_builder.proofs.order.order_of.Reads as reads
-use Rattle.union_builder.proofs.order.order_of.Lts as lts
-use Rattle.union_builder.proofs.order.insert_at.Reads as insert-at-reads
-use Rattle.union_builder.proofs.order.place_of.Reads as place-of-reads
 
 abbrev Inv-loop : tie.InvT-loop
 Inv-loop names sizes n order₀ k₀ order k = (k ≤ n) × (length order ≡ 128) × Listed names sizes order k
@@ -17,26 +13,21 @@ Inv-loop names sizes n order₀ k₀ order k = (k ≤ n) × (length order ≡ 12
 abbrev μ-loop : tie.MeasureT-loop
 μ-loop names sizes n order₀ k₀ order k = n - k
 
--- src/order.rt:72:5
 loop-holds : tie.Need-loop-holds Inv-loop μ-loop
 loop-holds c = (omega arith, refl, listed-none _ _ _)
 
--- src/order.rt:73:44
 slice-aggregate-place-of : tie.Need-slice-aggregate-place-of Inv-loop μ-loop
 slice-aggregate-place-of c = sym (c .before .before .loop .inv .1)
 
--- src/order.rt:73:13
 place-of-requires : tie.Need-place-of-requires Inv-loop μ-loop
 place-of-requires c κs =
     let l = c .before .before in
     let s = l .before .before .before in
     (held-less (s .args .names .now) (s .args .sizes .now) (s .args .n) (l .loop .k) (s .pre) (omega arith), l .loop .inv .2)
 
--- src/order.rt:74:19
 slice-aggregate-insert-at : tie.Need-slice-aggregate-insert-at Inv-loop μ-loop
 slice-aggregate-insert-at c = sym (c .before .before .before .before .loop .inv .1)
 
--- src/order.rt:74:9
 insert-at-requires : tie.Need-insert-at-requires Inv-loop μ-loop
 insert-at-requires c κs =
     let l = c .before .before .before .before in
@@ -45,15 +36,12 @@ insert-at-requires c κs =
     let le = place-le (s .args .names .now) (s .args .sizes .now) (l .loop .order) (goesBefore (nameBy (s .args .names .now) (s .args .sizes .now)) (l .loop .k)) (l .loop .k) (l .loop .inv .2 .room) in
     (omega (arith, c .before .place-of .ensures), omega arith, omega arith)
 
--- src/order.rt:72:9
 add-k : tie.Need-add-k Inv-loop μ-loop
 add-k c = omega arith
 
--- src/order.rt:72:5
 loop-less : tie.Need-loop-less Inv-loop μ-loop
 loop-less c = omega arith
 
--- src/order.rt:72:5
 loop-again : tie.Need-loop-again Inv-loop μ-loop
 loop-again c =
     let l = c .before .before .before .before .before .before in
@@ -67,7 +55,6 @@ loop-again c =
           (omega arith) (put .ensures .1) (found .ensures) (put .ensures .0),
     )
 
--- src/order.rt:67:1
 returns : tie.Need-returns Inv-loop μ-loop
 returns c =
     let l = c .before in

@@ -1,4 +1,4 @@
-use mathlib.Core.Path.{_≡_, refl, sym, ap, _∙_}
+use mathlib.Core.Path.{_≡_, sym, _∙_}
 use Prim.Native.Nat.{_+_, _-_, _≤_}
 use native.Mathlib.Omega.{arith}
 use lib.ListN.{take, drop}
@@ -7,9 +7,6 @@ use Rattle.union_builder.specs.Order.{nameBy, leading, goesBefore}
 use Rattle.union_builder.proofs.Listing.{place-on, place-found, place-last, listed-id}
 use Rattle.union_builder.proofs.order.place_of.Statement.{statement}
 use Rattle.union_builder.proofs.order.place_of.Tie as tie
-use Rattle.union_builder.proofs.order.place_of.Reads as reads
-use Rattle.union_builder.proofs.order.place_of.Lts as lts
-use Rattle.union_builder.proofs.order.goes_before.Reads as goes-before-reads
 
 abbrev Inv-loop : tie.InvT-loop
 Inv-loop names sizes order k i₀ i =
@@ -19,31 +16,26 @@ Inv-loop names sizes order k i₀ i =
 abbrev μ-loop : tie.MeasureT-loop
 μ-loop names sizes order k i₀ i = k - i
 
--- src/order.rt:53:5
 loop-holds : tie.Need-loop-holds Inv-loop μ-loop
 loop-holds c = (omega arith, omega arith)
 
--- src/order.rt:54:17
 shared-slice-read-j : tie.Need-shared-slice-read-j Inv-loop μ-loop
 shared-slice-read-j c =
     let s = c .before .before .before .before .before .before in
     omega (arith, s .pre .1 .room)
 
--- src/order.rt:54:17
 cast-j : tie.Need-cast-j Inv-loop μ-loop
 cast-j c =
     let l = c .before .before in
     let s = l .before .before .before .before in
     omega (arith, listed-id (s .args .names .now) (s .args .sizes .now) (s .args .order .now) (s .args .k) (l .loop .i) (s .pre .1) (omega arith))
 
--- src/order.rt:55:13
 goes-before-requires : tie.Need-goes-before-requires Inv-loop μ-loop
 goes-before-requires c κs =
     let l = c .before .before in
     let s = l .before .before .before .before in
     (s .pre .0, omega (arith, listed-id (s .args .names .now) (s .args .sizes .now) (s .args .order .now) (s .args .k) (l .loop .i) (s .pre .1) (omega arith)))
 
--- src/order.rt:56:13
 returns : tie.Need-returns Inv-loop μ-loop
 returns c =
     let l = c .before .before .before .before in
@@ -51,15 +43,12 @@ returns c =
     let p = goesBefore (nameBy (s .args .names .now) (s .args .sizes .now)) (s .args .k) in
     place-found p (s .args .order .now) (s .args .k) (l .loop .i) (s .pre .1 .room) (l .loop .inv .1) (omega arith) (sym (c .before .goes-before .ensures) ∙ not-true (c .before .goes-before .result) (c .if1 .taken))
 
--- src/order.rt:53:9
 add-i : tie.Need-add-i Inv-loop μ-loop
 add-i c = omega arith
 
--- src/order.rt:53:5
 loop-less : tie.Need-loop-less Inv-loop μ-loop
 loop-less c = omega arith
 
--- src/order.rt:53:5
 loop-again : tie.Need-loop-again Inv-loop μ-loop
 loop-again c =
     let l = c .before .before .before .before in
@@ -67,7 +56,6 @@ loop-again c =
     let p = goesBefore (nameBy (s .args .names .now) (s .args .sizes .now)) (s .args .k) in
     (omega arith, place-on p (s .args .order .now) (s .args .k) (l .loop .i) (s .pre .1 .room) (l .loop .inv .1) (omega arith) (sym (c .before .goes-before .ensures) ∙ not-false (c .before .goes-before .result) (c .if1 .left)))
 
--- src/order.rt:48:1
 returns-2 : tie.Need-returns-2 Inv-loop μ-loop
 returns-2 c =
     let l = c .before in
