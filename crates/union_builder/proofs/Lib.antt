@@ -2,3 +2,6 @@
 pub mod Ranges
 pub mod Same
 pub mod Asking
+pub mod Putting
+pub mod Places
+pub mod Growing

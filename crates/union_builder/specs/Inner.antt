@@ -1,14 +1,21 @@
 -- What the contracts of inner functions cite: parts of the definitions of the other files, as the code computes them.
-use mathlib.Core.Bool.{Bool, true, _&&_}
+use mathlib.Core.Bool.{Bool, true, false, cond, _&&_, _||_}
+use mathlib.Core.Option.{Option, none, some}
 use mathlib.Core.List.{List, [], _∷_}
-use Prim.Native.Nat.{ℕ, zero, suc}
+use Prim.Native.Nat.{ℕ, zero, suc, _*_, _≤_}
 use lib.Dec.{leb, eqb}
-use lib.ListN.{replicate}
+use lib.ListN.{take, drop, replicate}
+use Rattle.bitmap.specs.Lists.{every}
+use Rattle.bitmap.specs.Bits.{wordsFor}
 use Rattle.union_array.specs.declared.Layout.{Layout}
 use Rattle.union_array.specs.Types.{byLayout}
+use Rattle.union_array.specs.Buffers.{Buffers}
 use Rattle.union_builder.specs.Utf8.{Range, range, tail}
-use Rattle.union_builder.specs.Builder.{BuilderColumn}
+use Rattle.union_builder.specs.Names.{sameName, place}
+use Rattle.union_builder.specs.Builder.{BuilderColumn, UnionBuilder, noBuilderColumn, column, columnFits}
 pub use Rattle.union_builder.specs.declared.Expected.{Expected}
+pub use Rattle.union_builder.specs.declared.Found.{Found}
+pub use Rattle.union_builder.specs.declared.Plan.{Plan}
 
 -- left ranges: the first from low to high, then tails
 abbrev pub ranges : ℕ → ℕ → ℕ → List Range
@@ -27,3 +34,45 @@ fits l len c = leb (c .size) 32 && (leb (c .slots) len && byLayout l (eqb (c .sl
 unfoldable pub numbersFit : ℕ → ℕ → ℕ → ℕ → Bool
 numbersFit capacity limit len count =
     (leb 1 capacity && leb capacity 65536) && ((leb 1 limit && leb limit 128) && (leb len capacity && leb count limit))
+
+-- a value, or none for a null
+abbrev pub valueOf : Bool → ℕ → Option ℕ
+valueOf true x = some x
+valueOf false x = none
+
+-- n columns of so many slots lie in so many words and mask words
+pub record Room (capacity n values masks : ℕ) : Type 0 where
+  pub small : capacity ≤ 65536
+  pub few : n ≤ 128
+  pub words : n * capacity ≤ values
+  pub bits : n * wordsFor capacity ≤ masks
+
+-- lent memory of which only the names matter
+abbrev pub onlyNames : List ℕ → Buffers
+onlyNames names = record { ids = []; offsets = []; values = []; masks = []; names = names }
+
+-- no column has the name
+abbrev pub nothing : Bool → Found
+nothing fits = record { column = noBuilderColumn; id = 0; known = false; fits = fits }
+
+abbrev pub foundAt : ℕ → BuilderColumn → Found
+foundAt k c = record { column = c; id = k; known = true; fits = true }
+
+-- what was found, and then column k looked at
+unfoldable pub soughtOf : Found → ℕ → BuilderColumn → List ℕ → List ℕ → Bool → Found
+soughtOf f k c names name search =
+    cond search (cond (f .known) f (cond (sameName name (take (c .size) (drop (32 * k) names))) (foundAt k c) f)) f
+
+-- the column at a place
+abbrev pub foundIn : UnionBuilder → Option ℕ → Found
+foundIn b none = nothing true
+foundIn b (some k) = foundAt k (column b k)
+
+-- one pass over the columns
+unfoldable pub lookOf : UnionBuilder → List (List ℕ) → List ℕ → Bool → Found
+lookOf b known name search =
+    cond (every (b .count) (columnFits b)) (foundIn b (cond search (place name known) none)) (nothing false)
+
+-- a column with one slot more
+abbrev pub grownBy : BuilderColumn → Bool → BuilderColumn
+grownBy c null = record { slots = suc (c .slots); size = c .size; kind = c .kind; masked = c .masked || null }
