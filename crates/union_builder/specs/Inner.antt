@@ -1,11 +1,12 @@
 -- What the contracts of inner functions cite: parts of the definitions of the other files, as the code computes them.
+use mathlib.Core.Path.{_≡_}
 use mathlib.Core.Bool.{Bool, true, false, cond, _&&_, _||_}
 use mathlib.Core.Option.{Option, none, some}
 use mathlib.Core.List.{List, [], _∷_}
-use Prim.Native.Nat.{ℕ, zero, suc, _*_, _≤_}
+use Prim.Native.Nat.{ℕ, zero, suc, _*_, _≤_, _<_}
 use lib.Dec.{leb, eqb}
 use lib.ListN.{take, drop, replicate}
-use Rattle.bitmap.specs.Lists.{every}
+use Rattle.bitmap.specs.Lists.{every, retable}
 use Rattle.bitmap.specs.Bits.{wordsFor}
 use Rattle.union_array.specs.declared.Layout.{Layout}
 use Rattle.union_array.specs.Types.{byLayout}
@@ -13,6 +14,7 @@ use Rattle.union_array.specs.Buffers.{Buffers}
 use Rattle.union_builder.specs.Utf8.{Range, range, tail}
 use Rattle.union_builder.specs.Names.{sameName, place}
 use Rattle.union_builder.specs.Builder.{BuilderColumn, UnionBuilder, noBuilderColumn, column, columnFits}
+use Rattle.union_builder.specs.Append.{grown, columnAfter}
 pub use Rattle.union_builder.specs.declared.Expected.{Expected}
 pub use Rattle.union_builder.specs.declared.Found.{Found}
 pub use Rattle.union_builder.specs.declared.Plan.{Plan}
@@ -76,3 +78,34 @@ lookOf b known name search =
 -- a column with one slot more
 abbrev pub grownBy : BuilderColumn → Bool → BuilderColumn
 grownBy c null = record { slots = suc (c .slots); size = c .size; kind = c .kind; masked = c .masked || null }
+
+-- the columns in use can have a slot more
+pub record Short (b : UnionBuilder) : Type 0 where
+  pub few : b .count ≤ 128
+  pub slots : (k : ℕ) → k < b .count → (column b k) .slots < 65536
+
+abbrev pub withColumns : UnionBuilder → List BuilderColumn → UnionBuilder
+withColumns b cs = record { columns = cs; capacity = b .capacity; limit = b .limit; len = b .len; count = b .count; layout = b .layout }
+
+-- every column in use with one slot more
+abbrev pub rowAfter : UnionBuilder → ℕ → ℕ → Bool → List BuilderColumn
+rowAfter b n id present = retable n (λ k. grown (column b k) (cond (eqb id k) (valueOf present 0) none)) (b .columns)
+
+-- a plan that fits the builder
+pub record Sound (b : UnionBuilder) (p : Plan) : Type 0 where
+  pub few : p .count ≤ 128
+  pub used : p .id < p .count
+  pub len : b .len < 65536
+  pub slots : (p .column) .slots < 65536
+  pub others : (k : ℕ) → k < p .count → (k ≡ p .id → ⊥) → (column b k) .slots < 65536
+
+-- the builder after an append as planned, of a value or a null
+unfoldable pub settled : UnionBuilder → Plan → Option ℕ → UnionBuilder
+settled b p v = record {
+  columns = retable (p .count) (λ k. columnAfter (b .layout) (cond (eqb k (p .id)) (p .column) (column b k)) (p .id) v k) (b .columns);
+  capacity = b .capacity;
+  limit = b .limit;
+  len = suc (b .len);
+  count = p .count;
+  layout = b .layout;
+}
