@@ -5,3 +5,4 @@ pub mod Asking
 pub mod Putting
 pub mod Places
 pub mod Growing
+pub mod Stored

@@ -36,6 +36,10 @@ module _ {M : Type 0} (store : M → ℕ → Option ℕ → M) (s : ℕ) where
       → m′ ≡ store m ((f n) .id * s + (f n) .slot) v → v ≡ (f n) .value → m′ ≡ puts store s m₀ (table (n + 1) f)
   puts-turn m₀ m m′ n f v e g h = g ∙ rw (h, e) (sym (puts-more m₀ n f))
 
+  -- first these, then those
+  pub puts-two : (m₀ m₁ m₂ : M) (ps qs : List Put) → m₁ ≡ puts store s m₀ ps → m₂ ≡ puts store s m₁ qs → m₂ ≡ puts store s m₀ (ps ++ qs)
+  puts-two m₀ m₁ m₂ ps qs e g = g ∙ ap (λ (m : M). puts store s m qs) e ∙ sym (puts-append m₀ ps qs)
+
 pub put-value-length : (words : List ℕ) (at : ℕ) (v : Option ℕ) → length (putValue words at v) ≡ length words
 put-value-length words at v = length-set words at (orElse v 0)
 
@@ -89,3 +93,7 @@ module _ (c k v m : ℕ) (r : Room c (k + 1) v m) (slot : ℕ) (h : slot < c) wh
 
   pub bit-small : k * wordsFor c ≤ 8388608
   bit-small = small-product k (wordsFor c) (let f = r .few in omega arith) (let l = words-small c (r .small) in omega arith)
+
+pub cond-le : (t : Bool) (n : ℕ) → cond t n 0 ≤ n
+cond-le true n = omega arith
+cond-le false n = omega arith

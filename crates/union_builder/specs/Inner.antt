@@ -2,19 +2,21 @@
 use mathlib.Core.Path.{_≡_}
 use mathlib.Core.Bool.{Bool, true, false, cond, _&&_, _||_}
 use mathlib.Core.Option.{Option, none, some}
-use mathlib.Core.List.{List, [], _∷_}
+use mathlib.Core.List.{List, [], _∷_, _++_}
 use Prim.Native.Nat.{ℕ, zero, suc, _*_, _≤_, _<_}
 use lib.Dec.{leb, eqb}
 use lib.ListN.{take, drop, replicate}
 use Rattle.bitmap.specs.Lists.{every, retable}
 use Rattle.bitmap.specs.Bits.{wordsFor}
+use Rattle.union_array.specs.declared.Amounts.{Amounts}
 use Rattle.union_array.specs.declared.Layout.{Layout}
+use Rattle.union_array.specs.declared.Layout.the-variants.{Sparse, Dense}
 use Rattle.union_array.specs.Types.{byLayout}
 use Rattle.union_array.specs.Buffers.{Buffers}
 use Rattle.union_builder.specs.Utf8.{Range, range, tail}
 use Rattle.union_builder.specs.Names.{sameName, place}
 use Rattle.union_builder.specs.Builder.{BuilderColumn, UnionBuilder, noBuilderColumn, column, columnFits}
-use Rattle.union_builder.specs.Append.{grown, columnAfter}
+use Rattle.union_builder.specs.Append.{Put, put, orElse, countAfter, slotsBefore, filled, row, grown, columnAfter}
 pub use Rattle.union_builder.specs.declared.Expected.{Expected}
 pub use Rattle.union_builder.specs.declared.Found.{Found}
 pub use Rattle.union_builder.specs.declared.Plan.{Plan}
@@ -109,3 +111,29 @@ settled b p v = record {
   count = p .count;
   layout = b .layout;
 }
+
+-- the place of the name of a plan
+abbrev pub placeOf : Plan → Option ℕ
+placeOf p = cond (p .fresh) none (some (p .id))
+
+-- the slots that an append adds, in sparse: the nulls of a new column, and a row
+abbrev pub putsSparse : Plan → ℕ → Option ℕ → List Put
+putsSparse p len v = filled none (p .id) (cond (p .fresh) len 0) ++ row (p .count) len (p .id) v
+
+abbrev pub putsFor : Layout → Plan → ℕ → Option ℕ → List Put
+putsFor Sparse p len v = putsSparse p len v
+putsFor Dense p len v = put (p .id) ((p .column) .slots) v ∷ []
+
+-- what an append writes as planned lies in lent memory, for a name of so many bytes
+pub record Writable (b : UnionBuilder) (p : Plan) (size : ℕ) (lent : Amounts) : Type 0 where
+  pub used : p .id < p .count
+  pub len : b .len < b .capacity
+  pub slots : (p .column) .slots ≤ b .len
+  pub room : Room (b .capacity) (p .count) (lent .values) (lent .masks)
+  pub ids : b .capacity ≤ lent .ids
+  pub offsets : b .capacity ≤ lent .offsets
+  pub bytes : 32 * p .count ≤ lent .names
+  pub short : size ≤ 32
+  pub before : slotsBefore b (placeOf p) ≡ (p .column) .slots
+  pub place : orElse (placeOf p) (b .count) ≡ p .id
+  pub count : countAfter (placeOf p) (b .count) ≡ p .count

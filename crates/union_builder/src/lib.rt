@@ -5,6 +5,7 @@ pub mod kinds;
 pub mod names;
 pub mod questions;
 pub mod slots;
+pub mod store;
 pub mod utf8;
 
 use union_array::Kind;
