@@ -5,12 +5,14 @@ use Prim.Native.Nat.{ℕ, suc, _+_, _*_, _≤_, _<_}
 use native.Mathlib.Nat.{mul-le-mul}
 use native.Mathlib.Omega.{arith}
 use borrow.Author.Tests.{leb-true, le-leb, not-true, not-false}
-use lib.Dec.{leb, eqb}
+use lib.Dec.{leb, eqb, lit≤}
 use Rattle.bitmap.specs.Lists.{every}
 use Rattle.bitmap.specs.Bits.{wordsFor}
 use Rattle.bitmap.proofs.Tables.{both, every-at}
 use Rattle.union_array.specs.declared.Amounts.{Amounts}
-use Rattle.union_array.specs.Types.{byLayout}
+use Rattle.union_array.specs.declared.Kind.{Kind}
+use Rattle.union_array.specs.declared.Kind.the-variants.{Int8, Int16, Int32, Int64, UInt8, UInt16, UInt32, UInt64, Float32, Float64}
+use Rattle.union_array.specs.Types.{byLayout, widthOf}
 use Rattle.union_array.specs.Refusal.{no, _then_}
 use Rattle.union_builder.specs.Builder.{UnionBuilder, column, columnFits, question15, question16, builderChecked}
 use Rattle.union_builder.specs.Inner.{fits, numbersFit}
@@ -131,3 +133,17 @@ module _ (b : UnionBuilder) (lent : Amounts) where
   pub then-lent : (t : Bool) → numbersFit (b .capacity) (b .limit) (b .len) (b .count) ≡ true → every (b .count) (columnFits b) ≡ true
       → question16 (b .capacity) (b .limit) lent ≡ t → no 16 t ≡ builderChecked b lent
   then-lent t h g e = sym (sym (checked-by b lent) ∙ rw (h, g, e))
+
+-- ---- kinds
+
+pub width-le : (k : Kind) → widthOf k ≤ 64
+width-le Int8 = lit≤ tt
+width-le Int16 = lit≤ tt
+width-le Int32 = lit≤ tt
+width-le Int64 = lit≤ tt
+width-le UInt8 = lit≤ tt
+width-le UInt16 = lit≤ tt
+width-le UInt32 = lit≤ tt
+width-le UInt64 = lit≤ tt
+width-le Float32 = lit≤ tt
+width-le Float64 = lit≤ tt

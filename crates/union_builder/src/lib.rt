@@ -1,8 +1,13 @@
 // The union builder: its state by value, the memory that it fills lent to each call.
 pub mod finish;
+pub mod columns;
+pub mod find;
+pub mod kinds;
 pub mod names;
 pub mod order;
 pub mod questions;
+pub mod slots;
+pub mod store;
 pub mod utf8;
 
 use union_array::Kind;
@@ -58,4 +63,21 @@ pub struct Expected {
     pub low: u8,
     pub high: u8,
     pub left: u8,
+}
+
+// What a pass over the columns found: whether all of them fit, and the first one with the name, if it is known.
+pub struct Found {
+    pub column: BuilderColumn,
+    pub id: usize,
+    pub known: bool,
+    pub fits: bool,
+}
+
+// What an append is to do: its column as it is before the new slot, the columns in use after, and whether the name is new.
+pub struct Plan {
+    pub column: BuilderColumn,
+    pub id: usize,
+    pub count: usize,
+    pub refusal: u8,
+    pub fresh: bool,
 }
