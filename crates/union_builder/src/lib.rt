@@ -1,8 +1,11 @@
 // The union builder: its state by value, the memory that it fills lent to each call.
+pub mod append;
+pub mod builder;
 pub mod columns;
 pub mod find;
 pub mod kinds;
 pub mod names;
+pub mod planning;
 pub mod questions;
 pub mod slots;
 pub mod store;
