@@ -12,3 +12,6 @@ pub mod Putting
 pub mod Places
 pub mod Growing
 pub mod Stored
+pub mod Plans
+pub mod Appending
+pub mod Making

@@ -9,14 +9,16 @@ use lib.ListN.{take, drop, replicate}
 use Rattle.bitmap.specs.Lists.{every, retable}
 use Rattle.bitmap.specs.Bits.{wordsFor}
 use Rattle.union_array.specs.declared.Amounts.{Amounts}
+use Rattle.union_array.specs.declared.Kind.{Kind}
 use Rattle.union_array.specs.declared.Layout.{Layout}
 use Rattle.union_array.specs.declared.Layout.the-variants.{Sparse, Dense}
 use Rattle.union_array.specs.Types.{byLayout}
 use Rattle.union_array.specs.Buffers.{Buffers}
+use Rattle.union_array.specs.Refusal.{no, _then_, ifYes}
 use Rattle.union_builder.specs.Utf8.{Range, range, tail}
-use Rattle.union_builder.specs.Names.{sameName, place}
-use Rattle.union_builder.specs.Builder.{BuilderColumn, UnionBuilder, noBuilderColumn, column, columnFits}
-use Rattle.union_builder.specs.Append.{Put, put, orElse, countAfter, slotsBefore, filled, row, grown, columnAfter}
+use Rattle.union_builder.specs.Names.{question17, sameName, place}
+use Rattle.union_builder.specs.Builder.{BuilderColumn, UnionBuilder, noBuilderColumn, column, columnFits, builderChecked, namesOf}
+use Rattle.union_builder.specs.Append.{Put, put, isNone, orElse, question18, question19, question20, appendChecked, countAfter, slotsBefore, filled, row, opened, grown, columnAfter, builderAfter, buffersAfter, AppendOutcome, outcome}
 pub use Rattle.union_builder.specs.declared.Expected.{Expected}
 pub use Rattle.union_builder.specs.declared.Found.{Found}
 pub use Rattle.union_builder.specs.declared.Plan.{Plan}
@@ -137,3 +139,48 @@ pub record Writable (b : UnionBuilder) (p : Plan) (size : ℕ) (lent : Amounts) 
   pub before : slotsBefore b (placeOf p) ≡ (p .column) .slots
   pub place : orElse (placeOf p) (b .count) ≡ p .id
   pub count : countAfter (placeOf p) (b .count) ≡ p .count
+
+-- ---- where an append goes
+
+-- the place that was found
+abbrev pub atOf : Found → Option ℕ
+atOf f = cond (f .known) (some (f .id)) none
+
+-- a plan that is refused
+abbrev pub refusedPlan : ℕ → Plan
+refusedPlan n = record { column = noBuilderColumn; id = 0; count = 0; refusal = n; fresh = false }
+
+-- the column at a place before its slot is added: a new name's is opened
+abbrev pub columnAt : UnionBuilder → Option ℕ → List ℕ → Kind → BuilderColumn
+columnAt b none name kind = opened name kind (byLayout (b .layout) (b .len) 0)
+columnAt b (some k) name kind = column b k
+
+-- an append to a place
+abbrev pub plannedAt : UnionBuilder → Option ℕ → List ℕ → Kind → Plan
+plannedAt b at name kind =
+    record { column = columnAt b at name kind; id = orElse at (b .count); count = countAfter at (b .count); refusal = 0; fresh = isNone at }
+
+-- the plan by the number of the first no
+abbrev pub planBy : ℕ → UnionBuilder → Option ℕ → List ℕ → Kind → Plan
+planBy n b at name kind = ifYes n (plannedAt b at name kind) (refusedPlan n)
+
+-- questions 18 to 20
+abbrev pub restChecked : UnionBuilder → Option ℕ → Kind → ℕ
+restChecked b at kind = no 18 (question18 b kind at) then no 19 (question19 b) then no 20 (question20 b at)
+
+unfoldable pub restOf : UnionBuilder → Option ℕ → List ℕ → Kind → Plan
+restOf b at name kind = planBy (restChecked b at kind) b at name kind
+
+-- questions 15 to 20, where the columns have the names `known`
+abbrev pub allChecked : UnionBuilder → Amounts → List (List ℕ) → List ℕ → Kind → ℕ
+allChecked b lent known name kind = builderChecked b lent then no 17 (question17 name) then restChecked b (place name known) kind
+
+unfoldable pub planOf : UnionBuilder → Amounts → List (List ℕ) → List ℕ → Kind → Plan
+planOf b lent known name kind = planBy (allChecked b lent known name kind) b (place name known) name kind
+
+-- an append of a value that is cut already, or of none
+unfoldable pub appendedOf : UnionBuilder → Buffers → List ℕ → Kind → Option ℕ → AppendOutcome
+appendedOf b m name kind v =
+    let at = place name (namesOf b m) in
+    let n = appendChecked b m name kind in
+    outcome (record { builder = ifYes n (builderAfter b at name kind v) b; refusal = n }) (ifYes n (buffersAfter b m at name v) m)

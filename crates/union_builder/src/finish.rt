@@ -2,11 +2,11 @@
 use crate::BuilderColumn;
 use crate::Finished;
 use crate::UnionBuilder;
-use crate::order;
-use crate::questions;
+use crate::builder::empty_builder;
+use crate::order::order_of;
+use crate::questions::builder_checked;
 use union_array::Amounts;
 use union_array::Column;
-use union_array::Kind;
 use union_array::Layout;
 use union_array::UnionArray;
 ghost use mathlib.Core.Path.{_≡_};
@@ -99,28 +99,8 @@ fn describe(b: UnionBuilder, names: &[u8]) -> UnionArray
     ensures { λ r. ⌜ r ≡ describe b (onlyNames (now (names .entry))) ⌝ }
 {
     let sizes = sizes_of(b);
-    let order = order::order_of(names, &sizes, b.count);
+    let order = order_of(names, &sizes, b.count);
     fill(b, order)
-}
-
-// The empty builder of `capacity` slots and at most `limit` columns.
-fn empty_builder(layout: Layout, capacity: usize, limit: usize) -> UnionBuilder
-    ensures { λ r. ⌜ r ≡ empty layout capacity limit ⌝ }
-{
-    let c = BuilderColumn {
-        slots: 0,
-        size: 0,
-        kind: Kind::Int8,
-        masked: false,
-    };
-    UnionBuilder {
-        columns: [c; 128],
-        capacity,
-        limit,
-        len: 0,
-        count: 0,
-        layout,
-    }
 }
 
 // What a finished builder is handed back as: empty and sparse, its capacity and limit kept.
@@ -142,7 +122,7 @@ impl UnionBuilder {
     ) -> Finished
         ensures { λ r. ⌜ r ≡ finishClonedOf self (buffersOf (now («type_ids» .entry)) (now (offsets .entry)) (now (values .entry)) (now (masks .entry)) (now (names .entry))) ⌝ }
     {
-        let refusal = questions::builder_checked(
+        let refusal = builder_checked(
             self,
             Amounts {
                 ids: type_ids.len(),

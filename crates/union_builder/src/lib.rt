@@ -1,10 +1,13 @@
 // The union builder: its state by value, the memory that it fills lent to each call.
-pub mod finish;
+pub mod append;
+pub mod builder;
 pub mod columns;
 pub mod find;
+pub mod finish;
 pub mod kinds;
 pub mod names;
 pub mod order;
+pub mod planning;
 pub mod questions;
 pub mod slots;
 pub mod store;
