@@ -1,16 +1,11 @@
 // The union array: a description by value over lent memory.
 pub mod check;
-<<<<<<< HEAD
 pub mod child_value;
 pub mod fields;
 pub mod lookup;
 pub mod presence;
 pub mod questions;
 pub mod slices;
-=======
-pub mod presence;
-pub mod questions;
->>>>>>> logical_nulls
 
 // The kind of a column's values. One word holds one value, in its low bits.
 pub enum Kind {

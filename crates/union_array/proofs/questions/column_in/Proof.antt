@@ -1,12 +1,6 @@
-<<<<<<< HEAD
 use mathlib.Core.Path.{sym, _∙_}
 use native.Mathlib.Omega.{arith}
 use borrow.Author.Tests.{le-leb, lt-leb, not-true, not-false}
-=======
-use borrow.Author.Tests.{not-true, not-false}
-use mathlib.Core.Path.{sym, _∙_}
-use borrow.Author.Tests.{le-leb, lt-leb}
->>>>>>> logical_nulls
 use borrow.Author.Needs.{needs}
 use Rattle.union_array.specs.Questions.{columnIn}
 use Rattle.union_array.proofs.questions.column_in.Statement.{statement}
