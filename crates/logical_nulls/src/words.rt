@@ -73,11 +73,11 @@ fn write_gathered(
     requires { ⌜ Gathers table (now masks) (now ids) start layout (now offsets) at len ⌝ }
     ensures { λ _. ⌜ now (out .exit) ≡ wordsOf len (gatheredAt table (now (masks .entry)) (now (ids .entry)) start (childSlot layout (now (offsets .entry)) at)) (now (out .entry)) ⌝ }
 {
-    let n = bitmap::words_for(len);
+    let words = bitmap::words_for(len);
     let mut k: usize = 0;
-    while k < n {
-        let x = table::gather_word(table, masks, ids, start, layout, offsets, at, len, k);
-        out[k] = x;
+    while k < words {
+        let word = table::gather_word(table, masks, ids, start, layout, offsets, at, len, k);
+        out[k] = word;
         k += 1;
     }
 }

@@ -15,10 +15,10 @@ use Rattle.logical_nulls.proofs.words.write_gathered.Statement.{stateme
 use Rattle.logical_nulls.proofs.words.write_gathered.Tie as tie
 
 abbrev Inv-loop : tie.InvT-loop
-Inv-loop table masks ids start layout offsets at len out₀ n k₀ out k = (k ≤ n) × (out ≡ retable k (wordOf len (gatheredAt table masks ids start (childSlot layout offsets at))) out₀)
+Inv-loop table masks ids start layout offsets at len out₀ words k₀ out k = (k ≤ words) × (out ≡ retable k (wordOf len (gatheredAt table masks ids start (childSlot layout offsets at))) out₀)
 
 abbrev μ-loop : tie.MeasureT-loop
-μ-loop table masks ids start layout offsets at len out₀ n k₀ out k = n - k
+μ-loop table masks ids start layout offsets at len out₀ words k₀ out k = words - k
 
 words-for-requires : tie.Need-words-for-requires Inv-loop μ-loop
 words-for-requires c κs = c .before .before .pre .0 .0
