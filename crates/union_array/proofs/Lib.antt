@@ -1,5 +1,4 @@
 -- Laws that belong to no one function.
-pub mod Present
 pub mod Tests
 pub mod Signed
 pub mod Columns
@@ -7,3 +6,9 @@ pub mod OnePass
 pub mod Accepted
 pub mod SlotTable
 pub mod Checked
+pub mod Present
+pub mod Values
+pub mod ChildSlots
+pub mod Lookups
+pub mod Sliced
+pub mod SlicedSlots

@@ -9,3 +9,5 @@ pub mod Slices
 pub mod Look
 pub mod Pass
 pub mod Check
+pub mod ChildSlot
+pub mod Movable

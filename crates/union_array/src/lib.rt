@@ -1,7 +1,11 @@
 // The union array: a description by value over lent memory.
 pub mod check;
+pub mod child_value;
+pub mod fields;
+pub mod lookup;
 pub mod presence;
 pub mod questions;
+pub mod slices;
 
 // The kind of a column's values. One word holds one value, in its low bits.
 pub enum Kind {
@@ -137,4 +141,12 @@ pub struct Passed {
     pub column: Column,
     pub fault: u8,
     pub found: bool,
+}
+
+// A slot's child, its slot in it and its type id.
+pub struct ChildSlot {
+    pub column: Column,
+    pub slot: usize,
+    pub refusal: u8,
+    pub id: i8,
 }
