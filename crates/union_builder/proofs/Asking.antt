@@ -1,21 +1,21 @@
 -- Questions 15 and 16: what the code computes of them, and what their yes tells. Assumes nothing.
 use mathlib.Core.Path.{_≡_, refl, sym, ap, _∙_}
 use mathlib.Core.Bool.{Bool, true, false, not, _&&_}
-use Prim.Native.Nat.{ℕ, suc, _+_, _*_, _≤_, _<_}
+use Prim.Native.Nat.{ℕ, _*_, _≤_}
 use native.Mathlib.Nat.{mul-le-mul}
 use native.Mathlib.Omega.{arith}
 use borrow.Author.Tests.{leb-true, le-leb, not-true, not-false}
 use lib.Dec.{leb, eqb, lit≤}
 use Rattle.bitmap.specs.Lists.{every}
 use Rattle.bitmap.specs.Bits.{wordsFor}
-use Rattle.bitmap.proofs.Tables.{both, every-at}
+use Rattle.bitmap.proofs.Tables.{both}
 use Rattle.union_array.specs.declared.Amounts.{Amounts}
 use Rattle.union_array.specs.declared.Kind.{Kind}
 use Rattle.union_array.specs.declared.Kind.the-variants.{Int8, Int16, Int32, Int64, UInt8, UInt16, UInt32, UInt64, Float32, Float64}
 use Rattle.union_array.specs.Types.{byLayout, widthOf}
 use Rattle.union_array.specs.Refusal.{no, _then_}
 use Rattle.union_builder.specs.Builder.{UnionBuilder, column, columnFits, question15, question16, builderChecked}
-use Rattle.union_builder.specs.Inner.{fits, numbersFit}
+use Rattle.union_builder.specs.Finding.{fits, numbersFit}
 
 -- a test of an answer t, by what t is: `if !t` was taken, or left
 pub denied : {t q : Bool} → t ≡ q → not t ≡ true → q ≡ false

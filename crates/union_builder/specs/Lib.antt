@@ -4,4 +4,8 @@ pub mod Names
 pub mod Builder
 pub mod Append
 pub mod Finish
-pub mod Inner
+-- What the contracts of inner functions cite.
+pub mod Expecting
+pub mod Finding
+pub mod Writing
+pub mod Planning
