@@ -1,4 +1,10 @@
 -- The laws that the proofs of union_builder cite.
+pub mod NameOrder
+pub mod IdOrder
+pub mod Shifts
+pub mod Listing
+pub mod Describing
+pub mod Finishing
 pub mod Ranges
 pub mod Same
 pub mod Asking

@@ -9,3 +9,5 @@ pub mod Expecting
 pub mod Finding
 pub mod Writing
 pub mod Planning
+pub mod Order
+pub mod Describe

@@ -1,5 +1,5 @@
 use borrow.Author.Needs.{needs}
-use mathlib.Core.Path.{_≡_, sym, ap, _∙_, subst}
+use mathlib.Core.Path.{ap, _∙_}
 use Prim.Native.Nat.{ℕ, _-_, _*_, _%_, _^_}
 use Rattle.bitmap.proofs.Chunks.{chunk-whole, chunk-cut}
 use Rattle.bitmap.proofs.chunk.Statement.{statement}

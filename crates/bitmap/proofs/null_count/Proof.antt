@@ -1,3 +1,4 @@
+-- The loop counts the nulls of the bits before chunk k, at most len of them. Assumes nothing.
 use borrow.Author.Needs.{needs}
 use mathlib.Core.Path.{_≡_, sym, ap, _∙_}
 use Prim.Native.Nat.{_+_, _-_, _*_, _<_, _≤_, min}

@@ -1,9 +1,9 @@
-use mathlib.Core.Path.{_≡_, refl, sym, ap, ap₂, _∙_}
+-- The loop has made the bits below j of the selection mask. Assumes nothing.
+use mathlib.Core.Path.{_≡_, refl, ap, ap₂, _∙_}
 use Prim.Native.Nat.{ℕ, _+_, _-_, _*_, _%_, _^_, _≤_}
 use lib.Bits.{bitOr}
 use native.Mathlib.Omega.{arith}
 use mathlib.Core.Bool.{Bool, _&&_}
-use mathlib.Core.Logic.{⊎-elim}
 use lib.Dec.{ltb}
 use lib.ListN.{getD}
 use lib.IntN.{ℤ, pos}

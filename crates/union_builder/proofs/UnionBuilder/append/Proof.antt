@@ -6,8 +6,8 @@ use Rattle.union_builder.proofs.Appending.{append-value}
 use Rattle.union_builder.proofs.UnionBuilder.append.Statement.{statement}
 use Rattle.union_builder.proofs.UnionBuilder.append.Tie as tie
 
-word-of-requires : tie.Need-word-of-requires
-word-of-requires c κs = search needs
+low-bits-requires : tie.Need-low-bits-requires
+low-bits-requires c κs = search needs
 
 append-slot-requires : tie.Need-append-slot-requires
 append-slot-requires c κs = search needs
@@ -31,13 +31,13 @@ returns : tie.Need-returns
 returns c =
     let a = c .before .before .before .before .before .before .before .before .before .before .before .before .before .before .before .before .before .before .before .args in
     let m = buffersOf (a .type-ids .now) (a .offsets .now) (a .values .now) (a .masks .now) (a .names .now) in
-    c .before .before .before .before .before .before .before .before .append-slot .ensures ∙ append-value (a .self) m (a .name .now) (a .kind) (a .bits) (c .before .before .before .before .before .before .before .before .before .before .before .before .before .before .word-of .result) (c .before .before .before .before .before .before .before .before .before .before .before .before .before .before .word-of .ensures)
+    c .before .before .before .before .before .before .before .before .append-slot .ensures ∙ append-value (a .self) m (a .name .now) (a .kind) (a .bits) (c .before .before .before .before .before .before .before .before .before .before .before .before .before .before .low-bits .result) (c .before .before .before .before .before .before .before .before .before .before .before .before .before .before .low-bits .ensures)
 
 pub append-spec : {M : Type 1} → statement M
 append-spec =
     tie.close
     (tie.spec
-    word-of-requires
+    low-bits-requires
     append-slot-requires
     same-length
     same-length-2
