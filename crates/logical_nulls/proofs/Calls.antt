@@ -252,15 +252,18 @@ module _ (a : UnionArray) (fs : Fields) (ids offsets : List ℤ) (values masks n
   pub mask-ready : (gather route n : ℕ) → checked a m ≡ 0 → fs ≡ fieldsOf a (onlyMasks masks) → n ≡ wordsFor (a .count) → n ≤ length out → route ≡ routeOf a m gather
       → (route ≡ 0 → ⊥) → Ready a fs route ids offsets masks out × (1 ≤ route)
   unfolding fullyNulls nullsIn present
-  mask-ready gather route n c e q w r h = (record {
-    values = values;
-    names = names;
-    accepted = c;
-    fields = e;
-    lent = omega arith;
-    some = route-some a m gather (λ z. h (r ∙ z));
-    full = λ z. route-full a m gather (sym r ∙ z);
-  }, by route h)
+  mask-ready gather route n c e q w r h = (
+    record {
+      values = values;
+      names = names;
+      accepted = c;
+      fields = e;
+      lent = omega arith;
+      some = route-some a m gather (λ z. h (r ∙ z));
+      full = λ z. route-full a m gather (sym r ∙ z);
+    },
+    by route h,
+  )
     where
       by : (k : ℕ) → (k ≡ 0 → ⊥) → 1 ≤ k
       by zero h = absurd (h refl)
@@ -287,15 +290,18 @@ module _ (a : UnionArray) (fs : Fields) (ids offsets : List ℤ) (values masks n
   pub strategy-ready : (s : SparseStrategy) (route n : ℕ) → checked a m ≡ 0 → fs ≡ fieldsOf a (onlyMasks masks) → n ≡ wordsFor (a .count) → n ≤ length out → route ≡ strategyRoute s
       → question14 s a m ≡ true → Ready a fs route ids offsets masks out × (1 ≤ route)
   unfolding question14
-  strategy-ready s route n c e q w r h = (record {
-    values = values;
-    names = names;
-    accepted = c;
-    fields = e;
-    lent = omega arith;
-    some = omega (arith, leb-true 2 (a .fields) (both (leb 2 (a .fields)) (applies s a m) h .0));
-    full = λ z. absurd (omega (arith, strategy-least s));
-  }, omega (arith, strategy-least s))
+  strategy-ready s route n c e q w r h = (
+    record {
+      values = values;
+      names = names;
+      accepted = c;
+      fields = e;
+      lent = omega arith;
+      some = omega (arith, leb-true 2 (a .fields) (both (leb 2 (a .fields)) (applies s a m) h .0));
+      full = λ z. absurd (omega (arith, strategy-least s));
+    },
+    omega (arith, strategy-least s),
+  )
 
 -- ---- question 14, a case at a time
 
