@@ -34,3 +34,29 @@ pub fn flag(b: bool) {
 pub fn end() {
     io::write_all(STDOUT_FILENO, b"\n");
 }
+
+// A refusal on a line; nothing for an accepted call.
+pub fn refused(n: u8) {
+    if n == 0 {
+        return;
+    }
+    text(b"  refused");
+    small(n);
+    end();
+}
+
+// A round's first line.
+pub fn round(dense: bool, slots: usize) {
+    text(b"dense");
+    flag(dense);
+    text(b", slots");
+    size(slots);
+    end();
+}
+
+// A slice's line.
+pub fn slice(refusal: u8) {
+    text(b" slice from slot 1:");
+    small(refusal);
+    end();
+}
