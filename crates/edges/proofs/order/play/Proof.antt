@@ -1,74 +1,68 @@
+use mathlib.Core.Path.{_≡_, refl, _∙_}
+use Prim.Native.Nat.{_≤_, _-_, _*_}
+use native.Mathlib.Omega.{arith}
+use lib.ListN.{length}
 use Rattle.edges.proofs.order.play.Statement.{statement}
 use Rattle.edges.proofs.order.play.Tie as tie
-use Rattle.edges.proofs.order.play.Reads as reads
-use Rattle.edges.proofs.order.play.Lts as lts
-use Rattle.edges.proofs.order.put.Reads as put-reads
-use Rattle.edges.proofs.print.small.Reads as small-reads
-use Rattle.union_builder.proofs.UnionBuilder.with_capacity_sparse.Reads as with-capacity-sparse-reads
 
 abbrev Inv-loop : tie.InvT-loop
 Inv-loop script ids₀ offsets₀ values₀ masks₀ names₀ b₀ k₀ k-end ids offsets values masks names b k =
-    ?
+    (k ≤ k-end) × (length ids ≡ length ids₀) × (length offsets ≡ length offsets₀) × (length values ≡ length values₀) × (length masks ≡ length masks₀) × (length names ≡ length names₀) × (k-end * 2 ≤ length script)
 
 abbrev μ-loop : tie.MeasureT-loop
-μ-loop script ids₀ offsets₀ values₀ masks₀ names₀ b₀ k₀ k-end ids offsets values masks names b k =
-    ?
+μ-loop script ids₀ offsets₀ values₀ masks₀ names₀ b₀ k₀ k-end ids offsets values masks names b k = k-end - k
 
--- src/order.rt:48:9
 with-capacity-sparse-requires : tie.Need-with-capacity-sparse-requires Inv-loop μ-loop
-with-capacity-sparse-requires c κs = ?
+with-capacity-sparse-requires c κs = tt
 
--- src/order.rt:50:5
 loop-holds : tie.Need-loop-holds Inv-loop μ-loop
-loop-holds c = ?
+loop-holds c = (omega arith, refl, refl, refl, refl, refl, omega arith)
 
--- src/order.rt:51:32
 mul-put : tie.Need-mul-put Inv-loop μ-loop
-mul-put c = ?
+mul-put c = omega arith
 
--- src/order.rt:51:13
 put-requires : tie.Need-put-requires Inv-loop μ-loop
-put-requires c κs = ?
+put-requires c κs = omega arith
 
--- src/order.rt:53:9
 small-requires : tie.Need-small-requires Inv-loop μ-loop
-small-requires c κs = ?
+small-requires c κs = tt
 
--- src/order.rt:50:9
 add-k : tie.Need-add-k Inv-loop μ-loop
-add-k c = ?
+add-k c = omega (arith, c .before .before .before .before .before .before .before .before .before .before .before .before .before .before .before .before .before .before .before .before .before .before .before .before .before .before .before .before .before .good .0)
 
--- src/order.rt:50:5
 loop-less : tie.Need-loop-less Inv-loop μ-loop
-loop-less c = ?
+loop-less c = omega arith
 
--- src/order.rt:50:5
 loop-again : tie.Need-loop-again Inv-loop μ-loop
-loop-again c = ?
+loop-again c =
+    let l = c .before .before .before .before .before .before .before .before .before .before .before .before .before .before .before .before .before .loop .inv in
+    let p = c .before .before .before .before .before .before .before .before .before .before .put .kept .1 .1 .1 .1 in (
+      omega arith,
+      p .0 ∙ l .1,
+      p .1 .0 ∙ l .2,
+      p .1 .1 .0 ∙ l .3,
+      p .1 .1 .1 .0 ∙ l .4,
+      p .1 .1 .1 .1 .0 ∙ l .5,
+      l .6,
+    )
 
--- src/order.rt:40:1
 same-length : tie.Need-same-length Inv-loop μ-loop
-same-length c = ?
+same-length c = c .before .loop .inv .1
 
--- src/order.rt:40:1
 same-length-2 : tie.Need-same-length-2 Inv-loop μ-loop
-same-length-2 c = ?
+same-length-2 c = c .before .loop .inv .2
 
--- src/order.rt:40:1
 same-length-3 : tie.Need-same-length-3 Inv-loop μ-loop
-same-length-3 c = ?
+same-length-3 c = c .before .loop .inv .3
 
--- src/order.rt:40:1
 same-length-4 : tie.Need-same-length-4 Inv-loop μ-loop
-same-length-4 c = ?
+same-length-4 c = c .before .loop .inv .4
 
--- src/order.rt:40:1
 same-length-5 : tie.Need-same-length-5 Inv-loop μ-loop
-same-length-5 c = ?
+same-length-5 c = c .before .loop .inv .5
 
--- src/order.rt:40:1
 returns : tie.Need-returns Inv-loop μ-loop
-returns c = ?
+returns c = tt
 
 pub play-spec : {M : Type 1} → statement M
 play-spec =
