@@ -4,6 +4,7 @@ mod masks;
 mod order;
 mod print;
 mod rounds;
+mod script;
 
 fn main() {
     rounds::round(false, 63);

@@ -1,59 +1,11 @@
 // The order of finished columns, and what a refused kind leaves.
 use crate::print;
-use union_array::Kind;
+use crate::script;
 use union_array::UnionArray;
 use union_array::questions::entry_of;
-use union_builder::Appended;
 use union_builder::UnionBuilder;
-ghost use Prim.Native.Nat.{_+_, _<_};
+ghost use Prim.Native.Nat.{_<_};
 ghost use lib.ListN.{length};
-
-// The kind of a script's digit.
-fn kind_of(digit: u8) -> Kind {
-    if digit == b'1' {
-        return Kind::Int16;
-    }
-    Kind::Int8
-}
-
-// Appends the number k to the column named by the script's letter at `at`, of the kind of the digit behind it.
-fn put(
-    b: UnionBuilder,
-    script: &[u8],
-    at: usize,
-    k: usize,
-    ids: &mut [i8],
-    offsets: &mut [i32],
-    values: &mut [u64],
-    masks: &mut [u64],
-    names: &mut [u8],
-) -> Appended
-    requires { ⌜ at + 1 < length (now script) ⌝ }
-{
-    let digit = at + 1;
-    let kind = kind_of(script[digit]);
-    let name = &script[at..digit];
-    b.append(name, kind, k as u64, ids, offsets, values, masks, names)
-}
-
-// A sparse builder of eight slots and three columns after each letter and digit of the script; each number is printed.
-fn play(
-    script: &[u8],
-    ids: &mut [i8],
-    offsets: &mut [i32],
-    values: &mut [u64],
-    masks: &mut [u64],
-    names: &mut [u8],
-) -> UnionBuilder {
-    let m = UnionBuilder::with_capacity_sparse(8, 3, ids, offsets, values, masks, names);
-    let mut b = m.builder;
-    for k in 0..script.len() / 2 {
-        let r = put(b, script, 2 * k, k, ids, offsets, values, masks, names);
-        b = r.builder;
-        print::small(r.refusal);
-    }
-    b
-}
 
 // The number of fields, and the places of the first two names in list order.
 fn listing(
@@ -126,16 +78,22 @@ fn finished(
     slots(a, l.len, ids, offsets, values, masks, names);
 }
 
-// A script is played; what it finishes is listed.
-pub fn run(script: &[u8]) {
+// A sparse builder of eight slots plays a script; what it finishes is listed.
+pub fn run(entries: &[u8])
+    requires { ⌜ 1 < length (now entries) ⌝ }
+{
     let mut ids = [0i8; 8];
     let mut offsets = [0i32; 8];
     let mut values = [0u64; 24];
     let mut masks = [0u64; 3];
     let mut names = [0u8; 96];
-    print::text(script);
-    let b = play(
-        script,
+    print::text(entries);
+    let b = script::played(
+        false,
+        8,
+        entries,
+        entries.len() / 2,
+        true,
         &mut ids,
         &mut offsets,
         &mut values,

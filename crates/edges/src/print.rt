@@ -35,14 +35,17 @@ pub fn end() {
     io::write_all(STDOUT_FILENO, b"\n");
 }
 
-// A refusal on a line; nothing for an accepted call.
-pub fn refused(n: u8) {
-    if n == 0 {
+// An append's number: each one, or a refusal on a line.
+pub fn appended(each: bool, n: u8) {
+    if each {
+        small(n);
         return;
     }
-    text(b"  refused");
-    small(n);
-    end();
+    if n != 0 {
+        text(b"  refused");
+        small(n);
+        end();
+    }
 }
 
 // A round's first line.

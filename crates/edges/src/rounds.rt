@@ -2,6 +2,7 @@
 use crate::entries;
 use crate::masks as null_masks;
 use crate::print;
+use crate::script;
 use union_array::UnionArray;
 use union_builder::UnionBuilder;
 ghost use Prim.Native.Nat.{_<_, _≤_};
@@ -69,43 +70,6 @@ fn described(
     read_back(part, 1, n, ids, offsets, values, masks, names);
 }
 
-fn made(
-    dense: bool,
-    capacity: usize,
-    ids: &[i8],
-    offsets: &[i32],
-    values: &[u64],
-    masks: &[u64],
-    names: &[u8],
-) -> UnionBuilder {
-    if dense {
-        let m = UnionBuilder::with_capacity_dense(capacity, 3, ids, offsets, values, masks, names);
-        return m.builder;
-    }
-    let m = UnionBuilder::with_capacity_sparse(capacity, 3, ids, offsets, values, masks, names);
-    m.builder
-}
-
-// A builder of `capacity` slots after entries 0 to n - 1; each refusal is printed.
-fn filled(
-    dense: bool,
-    capacity: usize,
-    n: usize,
-    ids: &mut [i8],
-    offsets: &mut [i32],
-    values: &mut [u64],
-    masks: &mut [u64],
-    names: &mut [u8],
-) -> UnionBuilder {
-    let mut b = made(dense, capacity, ids, offsets, values, masks, names);
-    for i in 0..n {
-        let r = entries::put(b, i, ids, offsets, values, masks, names);
-        b = r.builder;
-        print::refused(r.refusal);
-    }
-    b
-}
-
 // A builder of `capacity` slots.
 pub fn round(dense: bool, capacity: usize)
     requires { ⌜ (0 < capacity) × (capacity ≤ 65) ⌝ }
@@ -116,10 +80,12 @@ pub fn round(dense: bool, capacity: usize)
     let mut masks = [0u64; 6];
     let mut names = [0u8; 96];
     print::round(dense, capacity);
-    let b = filled(
+    let b = script::played(
         dense,
         capacity,
+        b"a2b2a-b2a2b-",
         capacity + 1,
+        false,
         &mut ids,
         &mut offsets,
         &mut values,

@@ -2,15 +2,15 @@ use mathlib.Core.Path.{_≡_, refl, _∙_}
 use Prim.Native.Nat.{_≤_, _-_}
 use native.Mathlib.Omega.{arith}
 use lib.ListN.{length}
-use Rattle.edges.proofs.rounds.filled.Statement.{statement}
-use Rattle.edges.proofs.rounds.filled.Tie as tie
+use Rattle.edges.proofs.script.played.Statement.{statement}
+use Rattle.edges.proofs.script.played.Tie as tie
 
 abbrev Inv-loop : tie.InvT-loop
-Inv-loop dense capacity n ids₀ offsets₀ values₀ masks₀ names₀ b₀ i₀ ids offsets values masks names b i =
+Inv-loop dense capacity script n each ids₀ offsets₀ values₀ masks₀ names₀ b₀ i₀ ids offsets values masks names b i =
     (i ≤ n) × (length ids ≡ length ids₀) × (length offsets ≡ length offsets₀) × (length values ≡ length values₀) × (length masks ≡ length masks₀) × (length names ≡ length names₀)
 
 abbrev μ-loop : tie.MeasureT-loop
-μ-loop dense capacity n ids₀ offsets₀ values₀ masks₀ names₀ b₀ i₀ ids offsets values masks names b i = n - i
+μ-loop dense capacity script n each ids₀ offsets₀ values₀ masks₀ names₀ b₀ i₀ ids offsets values masks names b i = n - i
 
 made-requires : tie.Need-made-requires Inv-loop μ-loop
 made-requires c κs = tt
@@ -19,13 +19,13 @@ loop-holds : tie.Need-loop-holds Inv-loop μ-loop
 loop-holds c = (omega arith, refl, refl, refl, refl, refl)
 
 put-requires : tie.Need-put-requires Inv-loop μ-loop
-put-requires c κs = tt
+put-requires c κs = c .before .before .before .before .before .before .before .before .before .before .before .before .before .before .before .before .before .pre
 
-refused-requires : tie.Need-refused-requires Inv-loop μ-loop
-refused-requires c κs = tt
+appended-requires : tie.Need-appended-requires Inv-loop μ-loop
+appended-requires c κs = tt
 
 add-i : tie.Need-add-i Inv-loop μ-loop
-add-i c = omega (arith, c .before .before .before .before .before .before .before .before .before .before .before .before .before .before .before .before .before .before .before .before .before .before .before .before .before .before .before .fits .n)
+add-i c = omega (arith, c .before .before .before .before .before .before .before .before .before .before .before .before .before .before .before .before .before .before .before .before .before .before .before .before .before .before .before .before .fits .n)
 
 loop-less : tie.Need-loop-less Inv-loop μ-loop
 loop-less c = omega arith
@@ -33,7 +33,7 @@ loop-less c = omega arith
 loop-again : tie.Need-loop-again Inv-loop μ-loop
 loop-again c =
     let l = c .before .before .before .before .before .before .before .before .before .before .before .before .before .before .before .before .before .loop .inv in
-    let p = c .before .before .before .before .before .before .before .before .before .before .put .kept .1 .1 in (
+    let p = c .before .before .before .before .before .before .before .before .before .before .put .kept .1 .1 .1 in (
       omega arith,
       p .0 ∙ l .1,
       p .1 .0 ∙ l .2,
@@ -60,8 +60,8 @@ same-length-5 c = c .before .loop .inv .5
 returns : tie.Need-returns Inv-loop μ-loop
 returns c = tt
 
-pub filled-spec : {M : Type 1} → statement M
-filled-spec =
+pub played-spec : {M : Type 1} → statement M
+played-spec =
     tie.close
     (tie.spec
     Inv-loop
@@ -69,7 +69,7 @@ filled-spec =
     made-requires
     loop-holds
     put-requires
-    refused-requires
+    appended-requires
     add-i
     loop-less
     loop-again
