@@ -5,6 +5,7 @@ pub mod columns;
 pub mod find;
 pub mod finish;
 pub mod kinds;
+pub mod lent;
 pub mod names;
 pub mod order;
 pub mod planning;

@@ -1,0 +1,86 @@
+use mathlib.Core.Path.{_≡_, refl, _∙_}
+use Prim.Native.Nat.{_≤_, _-_, _*_}
+use native.Mathlib.Omega.{arith}
+use lib.ListN.{length}
+use Rattle.edges.proofs.order.play.Statement.{statement}
+use Rattle.edges.proofs.order.play.Tie as tie
+
+abbrev Inv-loop : tie.InvT-loop
+Inv-loop script ids₀ offsets₀ values₀ masks₀ names₀ b₀ k₀ k-end ids offsets values masks names b k =
+    (k ≤ k-end) × (length ids ≡ length ids₀) × (length offsets ≡ length offsets₀) × (length values ≡ length values₀) × (length masks ≡ length masks₀) × (length names ≡ length names₀) × (k-end * 2 ≤ length script)
+
+abbrev μ-loop : tie.MeasureT-loop
+μ-loop script ids₀ offsets₀ values₀ masks₀ names₀ b₀ k₀ k-end ids offsets values masks names b k = k-end - k
+
+with-capacity-sparse-requires : tie.Need-with-capacity-sparse-requires Inv-loop μ-loop
+with-capacity-sparse-requires c κs = tt
+
+loop-holds : tie.Need-loop-holds Inv-loop μ-loop
+loop-holds c = (omega arith, refl, refl, refl, refl, refl, omega arith)
+
+mul-put : tie.Need-mul-put Inv-loop μ-loop
+mul-put c = omega arith
+
+put-requires : tie.Need-put-requires Inv-loop μ-loop
+put-requires c κs = omega arith
+
+small-requires : tie.Need-small-requires Inv-loop μ-loop
+small-requires c κs = tt
+
+add-k : tie.Need-add-k Inv-loop μ-loop
+add-k c = omega (arith, c .before .before .before .before .before .before .before .before .before .before .before .before .before .before .before .before .before .before .before .before .before .before .before .before .before .before .before .before .before .good .0)
+
+loop-less : tie.Need-loop-less Inv-loop μ-loop
+loop-less c = omega arith
+
+loop-again : tie.Need-loop-again Inv-loop μ-loop
+loop-again c =
+    let l = c .before .before .before .before .before .before .before .before .before .before .before .before .before .before .before .before .before .loop .inv in
+    let p = c .before .before .before .before .before .before .before .before .before .before .put .kept .1 .1 .1 .1 in (
+      omega arith,
+      p .0 ∙ l .1,
+      p .1 .0 ∙ l .2,
+      p .1 .1 .0 ∙ l .3,
+      p .1 .1 .1 .0 ∙ l .4,
+      p .1 .1 .1 .1 .0 ∙ l .5,
+      l .6,
+    )
+
+same-length : tie.Need-same-length Inv-loop μ-loop
+same-length c = c .before .loop .inv .1
+
+same-length-2 : tie.Need-same-length-2 Inv-loop μ-loop
+same-length-2 c = c .before .loop .inv .2
+
+same-length-3 : tie.Need-same-length-3 Inv-loop μ-loop
+same-length-3 c = c .before .loop .inv .3
+
+same-length-4 : tie.Need-same-length-4 Inv-loop μ-loop
+same-length-4 c = c .before .loop .inv .4
+
+same-length-5 : tie.Need-same-length-5 Inv-loop μ-loop
+same-length-5 c = c .before .loop .inv .5
+
+returns : tie.Need-returns Inv-loop μ-loop
+returns c = tt
+
+pub play-spec : {M : Type 1} → statement M
+play-spec =
+    tie.close
+    (tie.spec
+    Inv-loop
+    μ-loop
+    with-capacity-sparse-requires
+    loop-holds
+    mul-put
+    put-requires
+    small-requires
+    add-k
+    loop-less
+    loop-again
+    same-length
+    same-length-2
+    same-length-3
+    same-length-4
+    same-length-5
+    returns)
