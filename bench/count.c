@@ -6,6 +6,16 @@
 #include <string.h>
 #include "../bindings/union.h"
 
+#ifdef COPIES
+/* Counts the copies of a kilobyte or more that the library asks for. */
+static size_t large, bytes;
+void *memcpy(void *restrict to, const void *restrict from, size_t n) {
+    if (n >= 1024) large++, bytes += n;
+    for (size_t i = 0; i < n; i++) ((volatile char *)to)[i] = ((const char *)from)[i];
+    return to;
+}
+#endif
+
 #define SLOTS 4096
 #define WORDS 64
 
@@ -37,6 +47,9 @@ int main(int argc, char **argv) {
     int fields = atoi(argv[2]), layout = atoi(argv[3]), n = atoi(argv[4]);
     if (!strcmp(call, "append")) {
         struct union_builder b = filled(layout, fields, fields + n);
+#ifdef COPIES
+        printf("%zu %zu\n", large, bytes);
+#endif
         return b.len != (size_t)(fields + n);
     }
     struct union_builder b = filled(layout, fields, SLOTS);
@@ -51,6 +64,10 @@ int main(int argc, char **argv) {
         else if (!strcmp(call, "skip_without_nulls")) sum += union_strategy(f.array, 5, LENT, out, WORDS).nulls;
         else sum += union_strategy(f.array, 6, LENT, out, WORDS).nulls;
     }
+#ifdef COPIES
+    printf("%zu %zu\n", large, bytes);
+#else
     printf("%llu\n", (unsigned long long)sum);
+#endif
     return 0;
 }
