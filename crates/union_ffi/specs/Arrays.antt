@@ -1,26 +1,27 @@
--- Arrays and answers as C structs, and each call on an array at the boundary.
-use mathlib.Core.Bool.{Bool, true, cond, _&&_}
-use mathlib.Core.List.{List, [], _∷_, map}
+-- Arrays and their answers as C structs, and each call on an array at the boundary.
+use mathlib.Core.Bool.{Bool, false, _&&_}
+use mathlib.Core.List.{map}
 use Prim.Native.Nat.{ℕ}
-use lib.IntN.{ℤ}
-use lib.ListN.{take, getD}
-use Rattle.bitmap.specs.Lists.{every}
+use lib.IntN.{ℤ, pos}
+use lib.ListN.{take, replicate}
 use Rattle.bitmap.specs.Bits.{digit}
 use Rattle.union_array.specs.declared.Column.{Column}
 use Rattle.union_array.specs.declared.UnionArray.{UnionArray}
 use Rattle.union_array.specs.declared.Value.{Value}
+use Rattle.union_array.specs.declared.TypeId.{TypeId}
+use Rattle.union_array.specs.declared.ValueOffset.{ValueOffset}
+use Rattle.union_array.specs.declared.Child.{Child}
 use Rattle.union_array.specs.declared.NamePlace.{NamePlace}
 use Rattle.union_array.specs.declared.TypeNames.{TypeNames}
 use Rattle.union_array.specs.declared.Flag.{Flag}
+use Rattle.union_array.specs.declared.Slice.{Slice}
 use Rattle.union_array.specs.Types.{kindNumber, noColumn, noArray}
 use Rattle.union_array.specs.Buffers.{Buffers, amountsOf}
-use Rattle.union_array.specs.Refusal.{no, _then_, ifYes}
+use Rattle.union_array.specs.Refusal.{ifYes}
 use Rattle.union_array.specs.Questions.{asked}
 use Rattle.union_array.specs.Lookup.{tryNewOf, noValue, valueOf, typeIdOf, valueOffsetOf, childOf, noName, typeNamesOf, isDenseOf, isNullableOf}
 use Rattle.union_array.specs.Slices.{sliceOf}
-use Rattle.logical_nulls.specs.declared.LogicalNulls.{LogicalNulls}
-use Rattle.logical_nulls.specs.Mask.{Masked, logicalNullsOf, strategyOf, notMasked}
-use Rattle.union_ffi.specs.Numbers.{kindFrom, isKind, layoutFrom, layoutNumber, isLayout, flagFrom, isFlag, strategyFrom, isStrategy, badNumber}
+use Rattle.union_ffi.specs.Numbers.{kindFrom, layoutFrom, layoutNumber, isLayout, flagFrom, isCase, each, atBoundary, badNumber}
 pub use Rattle.union_ffi.specs.declared.CColumn.{CColumn}
 pub use Rattle.union_ffi.specs.declared.CArray.{CArray}
 pub use Rattle.union_ffi.specs.declared.CValue.{CValue}
@@ -32,7 +33,6 @@ pub use Rattle.union_ffi.specs.declared.CTypeNames.{CTypeNames}
 pub use Rattle.union_ffi.specs.declared.CFlag.{CFlag}
 pub use Rattle.union_ffi.specs.declared.CSlice.{CSlice}
 pub use Rattle.union_ffi.specs.declared.CPart.{CPart}
-pub use Rattle.union_ffi.specs.declared.CNulls.{CNulls}
 
 -- ---- reading
 abbrev pub columnFrom : CColumn → Column
@@ -60,16 +60,9 @@ arrayFrom a = record {
   layout = layoutFrom (a .layout);
 }
 
-abbrev pub isColumn : CColumn → Bool
-isColumn c = isKind (c .kind) && isFlag (c .masked)
-
-abbrev pub allColumns : List CColumn → Bool
-allColumns [] = true
-allColumns (c ∷ cs) = isColumn c && allColumns cs
-
 -- every number of the columns in use names a case; entries past the fields may hold anything
 unfoldable pub isArray : CArray → Bool
-isArray a = isLayout (a .layout) && allColumns (take (a .fields) (a .columns))
+isArray a = isLayout (a .layout) && each (λ c. isCase (c .kind) (c .masked)) (take (a .fields) (a .columns))
 
 -- ---- writing
 abbrev pub columnTo : Column → CColumn
@@ -111,16 +104,58 @@ valueTo v = record {
 abbrev pub flagTo : Flag → CFlag
 flagTo f = record { refusal = f .refusal; holds = digit (f .holds) }
 
-abbrev pub nulls : LogicalNulls → CNulls
-nulls r = record { nulls = r .nulls; refusal = r .refusal; route = r .route; present = digit (r .present) }
+abbrev pub typeIdTo : TypeId → CTypeId
+typeIdTo t = record { refusal = t .refusal; id = t .id }
 
--- ---- the calls
--- one answer where the numbers name cases, the answer of a refusal by 128 where they do not
-abbrev pub atBoundary : {A : Type 0} → Bool → A → A → A
-atBoundary ok answer refused = cond ok answer refused
+abbrev pub valueOffsetTo : ValueOffset → CValueOffset
+valueOffsetTo o = record { offset = o .offset; refusal = o .refusal }
 
+abbrev pub childTo : Child → CChild
+childTo c = record { column = columnTo (c .column); refusal = c .refusal }
+
+abbrev pub nameTo : NamePlace → CNamePlace
+nameTo n = record { start = n .start; size = n .size }
+
+unfoldable pub typeNamesTo : TypeNames → CTypeNames
+typeNamesTo t = record { names = map nameTo (t .names); count = t .count; refusal = t .refusal }
+
+abbrev pub sliceTo : Slice → CSlice
+sliceTo s = record { array = arrayTo (s .array); refusal = s .refusal }
+
+-- ---- the calls: "all other answer fields 0" where a number names no case
 unfoldable pub cTryNew : CArray → Buffers → ℕ
 cTryNew a m = atBoundary (isArray a) (tryNewOf (arrayFrom a) m) badNumber
 
 unfoldable pub cValue : CArray → Buffers → ℕ → CValue
 cValue a m i = valueTo (atBoundary (isArray a) (valueOf (arrayFrom a) m i) (noValue badNumber))
+
+unfoldable pub cTypeId : CArray → Buffers → ℕ → CTypeId
+cTypeId a m i = typeIdTo (atBoundary (isArray a) (typeIdOf (arrayFrom a) m i) (record { refusal = badNumber; id = pos 0 }))
+
+unfoldable pub cValueOffset : CArray → Buffers → ℕ → CValueOffset
+cValueOffset a m i = valueOffsetTo (atBoundary (isArray a) (valueOffsetOf (arrayFrom a) m i) (record { offset = 0; refusal = badNumber }))
+
+unfoldable pub cChild : CArray → Buffers → ℤ → CChild
+cChild a m id = childTo (atBoundary (isArray a) (childOf (arrayFrom a) m id) (record { column = noColumn; refusal = badNumber }))
+
+unfoldable pub cTypeNames : CArray → Buffers → CTypeNames
+cTypeNames a m = typeNamesTo (atBoundary (isArray a) (typeNamesOf (arrayFrom a) m) (record { names = replicate 128 noName; count = 0; refusal = badNumber }))
+
+abbrev pub noFlag : Flag
+noFlag = record { refusal = badNumber; holds = false }
+
+unfoldable pub cIsDense : CArray → Buffers → CFlag
+cIsDense a m = flagTo (atBoundary (isArray a) (isDenseOf (arrayFrom a) m) noFlag)
+
+unfoldable pub cIsNullable : CArray → Buffers → CFlag
+cIsNullable a m = flagTo (atBoundary (isArray a) (isNullableOf (arrayFrom a) m) noFlag)
+
+-- where the shown type ids are: the array's own part of the lent ones
+abbrev pub partOf : UnionArray → ℕ → CPart
+partOf a n = record { start = ifYes n (a .start) 0; count = ifYes n (a .count) 0; refusal = n }
+
+unfoldable pub cTypeIds : CArray → Buffers → CPart
+cTypeIds a m = partOf (arrayFrom a) (atBoundary (isArray a) (asked (arrayFrom a) (amountsOf m)) badNumber)
+
+unfoldable pub cSlice : CArray → Buffers → ℕ → ℕ → CSlice
+cSlice a m o n = sliceTo (atBoundary (isArray a) (sliceOf (arrayFrom a) m o n) (record { array = noArray; refusal = badNumber }))

@@ -1,14 +1,13 @@
 -- Enums and flags as numbers. A number that names no case is refused by 128 before the call asks its first question.
-use mathlib.Core.Bool.{Bool, cond, _&&_}
+use mathlib.Core.Bool.{Bool, true, cond, _&&_}
+use mathlib.Core.List.{List, [], _∷_}
 use Prim.Native.Nat.{ℕ}
-use lib.Dec.{eqb, leb, ltb}
+use lib.Dec.{eqb, ltb}
 use Rattle.union_array.specs.declared.Kind.{Kind}
 use Rattle.union_array.specs.declared.Kind.the-variants.{Int8, Int16, Int32, Int64, UInt8, UInt16, UInt32, UInt64, Float32, Float64}
 use Rattle.union_array.specs.declared.Layout.{Layout}
 use Rattle.union_array.specs.declared.Layout.the-variants.{Sparse, Dense}
 use Rattle.union_array.specs.Types.{byLayout}
-use Rattle.logical_nulls.specs.declared.SparseStrategy.{SparseStrategy}
-use Rattle.logical_nulls.specs.declared.SparseStrategy.the-variants.{Gather, SkipOne, SkipWithoutNulls, SkipFullyNull}
 
 -- the kind with the number (`kindNumber` is the way back)
 abbrev pub kindFrom : ℕ → Kind
@@ -34,13 +33,19 @@ flagFrom n = eqb n 1
 abbrev pub isFlag : ℕ → Bool
 isFlag n = ltb n 2
 
--- a strategy by its route's number
-abbrev pub strategyFrom : ℕ → SparseStrategy
-strategyFrom n = cond (eqb n 4) SkipOne (cond (eqb n 5) SkipWithoutNulls (cond (eqb n 6) SkipFullyNull Gather))
-
-abbrev pub isStrategy : ℕ → Bool
-isStrategy n = leb 3 n && ltb n 7
+-- the numbers of a column name cases
+unfoldable pub isCase : ℕ → ℕ → Bool
+isCase kind masked = isKind kind && isFlag masked
 
 -- the boundary's own refusal: "a number that names no kind, layout, flag or strategy"
 abbrev pub badNumber : ℕ
 badNumber = 128
+
+-- one answer where the numbers name cases, the answer of a refusal by 128 where they do not
+abbrev pub atBoundary : {A : Type 0} → Bool → A → A → A
+atBoundary ok answer refused = cond ok answer refused
+
+-- each element passes
+abbrev pub each : {A : Type 0} → (A → Bool) → List A → Bool
+each p [] = true
+each p (x ∷ xs) = p x && each p xs

@@ -1,6 +1,7 @@
 // The calls for C and Rust: plain numbers, C structs of numbers, and slices.
 pub mod array;
 pub mod builder;
+pub mod convert;
 
 // A column list's entry. `kind` is 0 to 9 in the order of `union_array::Kind`, `masked` 0 or 1.
 #[repr(C)]
