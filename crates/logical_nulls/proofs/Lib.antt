@@ -6,3 +6,4 @@ pub mod Strategies
 pub mod Entries
 pub mod Writing
 pub mod Masks
+pub mod Calls

@@ -1,33 +1,33 @@
 -- What each route writes is the null mask. Assumes nothing.
 use mathlib.Core.Path.{_≡_, refl, sym, ap, ap₂, _∙_, subst}
-use mathlib.Core.Bool.{Bool, true, false, cond, not, _&&_, false≢true}
+use mathlib.Core.Bool.{Bool, true, false, cond, not, false≢true}
 use mathlib.Core.List.{List, map}
-use Prim.Native.Nat.{ℕ, zero, suc, _+_, _*_, _^_, _≤_, _<_}
-use native.Mathlib.Nat.{zero-add}
+use mathlib.Core.Option.{Option, none, some}
+use Prim.Native.Nat.{ℕ, _*_, _^_, _≤_, _<_}
 use native.Mathlib.Omega.{arith}
-use borrow.Author.Tests.{eq-eqb, ne-eqb, eqb-true}
-use lib.Dec.{T, eqb, leb}
+use borrow.Author.Tests.{ne-eqb}
+use lib.Dec.{T, eqb}
 use lib.IntN.{ℤ}
 use lib.ListN.{length, getD}
 use lib.Signed.{nonNeg}
 use Rattle.bitmap.specs.Bits.{count, wordsFor, nullsOf, written}
 use Rattle.bitmap.proofs.Tables.{retable-at}
-use Rattle.bitmap.proofs.Setting.{written-nulls, written-length}
+use Rattle.bitmap.proofs.Setting.{written-nulls, written-length, written-ext}
 use Rattle.union_array.specs.declared.Column.{Column}
 use Rattle.union_array.specs.declared.Layout.{Layout}
 use Rattle.union_array.specs.declared.Layout.the-variants.{Sparse, Dense}
 use Rattle.union_array.specs.declared.UnionArray.{UnionArray}
 use Rattle.union_array.specs.Types.{noColumn, byLayout}
 use Rattle.union_array.specs.Buffers.{Buffers, buffersOf, onlyMasks, amountsOf}
-use Rattle.union_array.specs.Slots.{inUse, childAt, slotAt, present, nullsIn, slotNull}
+use Rattle.union_array.specs.Slots.{inUse, childAt, slotAt, present, nullsIn, nullIn, slotNull}
 use Rattle.union_array.specs.Questions.{maskIn}
 use Rattle.union_array.specs.Lookup.{orNone}
 use Rattle.union_array.proofs.Columns.{all-found}
 use Rattle.union_array.proofs.Accepted.{AllAccepted, all-accepted, column-at, slots-at}
-use Rattle.logical_nulls.specs.Mask.{LogicalNulls, Masked, masked, maskedBy, answerOn}
+use Rattle.logical_nulls.specs.Mask.{LogicalNulls, masked, maskedBy, answerOn}
 use Rattle.logical_nulls.specs.Route.{fullyNull, fullyNulls}
-use Rattle.logical_nulls.specs.Fields.{Field, Fields, noField, stateOf, fieldOf, fieldAt, asColumn, noFields, fieldsOf, inList}
-use Rattle.logical_nulls.specs.Steps.{wordsOf, stepAt, skipOneAt, skipWithoutAt, skipFullyAt, Chunk}
+use Rattle.logical_nulls.specs.Fields.{Field, Fields, noField, stateOf, fieldOf, fieldAt, asColumn, noFields, inList}
+use Rattle.logical_nulls.specs.Steps.{wordsOf, stepAt, Chunk}
 use Rattle.logical_nulls.specs.Table.{tableOf, childSlot, gatheredAt, Gathers}
 use Rattle.logical_nulls.specs.Ready.{reads, Ready}
 use Rattle.logical_nulls.proofs.FieldStates.{fields-in, many-all, none-present, not-full}
@@ -43,6 +43,13 @@ not-sparse Dense b e = absurd (false≢true e)
 same-fields : (m : Buffers) (cs : List Column) → map (fieldOf (onlyMasks (m .masks))) cs ≡ map (fieldOf m) cs
 unfolding stateOf nullsIn present
 same-fields m cs = refl
+
+-- values and names do not say what is null
+pub null-same : (ids offsets : List ℤ) (values names masks : List ℕ) (o : Option Column) (p : ℕ)
+    → nullIn o (buffersOf ids offsets values masks names) p ≡ nullIn o (reads ids offsets masks) p
+unfolding present
+null-same ids offsets values names masks none p = refl
+null-same ids offsets values names masks (some c) p = refl
 
 module _ (a : UnionArray) (fs : Fields) (route : ℕ) (ids offsets : List ℤ) (masks out : List ℕ) (full : length (a .columns) ≡ 128)
     (r : Ready a fs route ids offsets masks out) where
@@ -61,10 +68,15 @@ module _ (a : UnionArray) (fs : Fields) (route : ℕ) (ids offsets : List ℤ) (
   the-fields : inList fs ≡ map (fieldOf m) (inUse a)
   the-fields = ap inList (r .fields) ∙ fields-in (onlyMasks masks) (a .fields) (a .columns) (omega (arith, few)) ∙ same-fields m (inUse a)
 
+  same-null : (i : ℕ) → slotNull a m i ≡ slotNull a (reads ids offsets masks) i
+  unfolding slotNull
+  same-null i = null-same ids offsets (r .values) (r .names) masks (childAt a m i) (slotAt a m i)
+
   -- the words are those of the null mask, if each slot's bit is
   as-written : (f : ℕ → Bool) → ((i : ℕ) → i < a .count → f i ≡ not (slotNull a m i)) → wordsOf (a .count) f out ≡ written (a .count) (slotNull a (reads ids offsets masks)) out
-  unfolding slotNull present
-  as-written f e = words-ext (a .count) f (λ i. not (slotNull a m i)) out e ∙ words-written (a .count) (slotNull a m) out
+  as-written f e =
+      words-ext (a .count) f (λ i. not (slotNull a m i)) out e ∙ words-written (a .count) (slotNull a m) out
+      ∙ written-ext (a .count) (slotNull a m) (slotNull a (reads ids offsets masks)) out (λ i h. same-null i)
 
   -- route 2: every child is fully null
   same-full : fullyNulls a (onlyMasks masks) ≡ fullyNulls a m
@@ -87,12 +99,12 @@ module _ (a : UnionArray) (fs : Fields) (route : ℕ) (ids offsets : List ℤ) (
   stepped e =
       as-written (stepAt route (inList fs) masks ids (a .start)) (λ i h.
       ap (λ (l : List Field). stepAt route l masks ids (a .start) i) the-fields
-      ∙ pick (eqb route 5) (eqb route 6) (without-is a m y e i h) (fully-is a m y e i h) (one-is a m y e i h))
+      ∙ pick (eqb route 5) (eqb route 6) _ _ _ i _ (without-is a m y e i h) (fully-is a m y e i h) (one-is a m y e i h))
     where
-      pick : (b c : Bool) {f g k : ℕ → Bool} {i : ℕ} {x : Bool} → f i ≡ x → g i ≡ x → k i ≡ x → cond b f (cond c g k) i ≡ x
-      pick true c p q s = p
-      pick false true p q s = q
-      pick false false p q s = s
+      pick : (b c : Bool) (f g k : ℕ → Bool) (i : ℕ) (x : Bool) → f i ≡ x → g i ≡ x → k i ≡ x → cond b f (cond c g k) i ≡ x
+      pick true c f g k i x p q s = p
+      pick false true f g k i x p q s = q
+      pick false false f g k i x p q s = s
 
   -- what a step needs
   pub steps-on : a .layout ≡ Sparse → (k : ℕ) → 64 * k < a .count → Chunk fs masks ids (a .start) (a .count) k
@@ -119,7 +131,7 @@ module _ (a : UnionArray) (fs : Fields) (route : ℕ) (ids offsets : List ℤ) (
   plain-ids = subst (λ (x : Fields). (q : ℕ) → q < x .count → T (nonNeg (getD (x .list) q noField .id))) (sym (r .fields)) (λ q l.
       let b : q < length (a .columns) = omega (arith, few) in
       subst (λ (x : Field). T (nonNeg (x .id))) (sym (retable-at (a .fields) (fieldAt (onlyMasks masks) (a .columns)) noFields q noField l))
-      (valid-plain _ (column-at a (amountsOf m) (y .array) q l b .valid) .0))
+      (valid-plain (getD (a .columns) q noColumn .id) (column-at a (amountsOf m) (y .array) q l b .valid) .0))
 
   module _ (t : List Field) (e : t ≡ tableOf (inList fs)) where
     the-table : t ≡ tableOf (map (fieldOf m) (inUse a))

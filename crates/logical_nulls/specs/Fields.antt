@@ -48,3 +48,7 @@ inList fs = take (fs .count) (fs .list)
 unfoldable pub routeBy : Layout → ℕ → Bool → ℕ → ℕ → ℕ → ℕ
 routeBy layout n masked m f gather =
     cond (leb n 1) (digit masked) (cond (eqb m 0) 0 (cond (eqb f n) 2 (byLayout layout (sparseRoute gather n m f) 3)))
+
+-- the same for the fields of an array
+abbrev pub routeFor : Layout → Fields → ℕ → ℕ
+routeFor layout fs gather = routeBy layout (fs .count) (getD (fs .list) 0 noField .masked) (fs .some) (fs .full) gather

@@ -1,5 +1,7 @@
 // The null mask of a union array: its route, its strategies, its words.
 pub mod cost;
+pub mod mask;
+pub mod named;
 pub mod route;
 pub mod states;
 pub mod steps;

@@ -2,8 +2,9 @@
 ghost use mathlib.Core.Path.{_≡_};
 ghost use Prim.Native.Nat.{_≤_};
 ghost use Rattle.logical_nulls.specs.Route.{cheaper, sparseRoute};
-ghost use Rattle.logical_nulls.specs.Fields.{routeBy};
+ghost use Rattle.logical_nulls.specs.Fields.{routeBy, routeFor};
 use crate::Choice;
+use crate::Fields;
 use union_array::Layout;
 
 // A later strategy is taken only if it applies and costs less.
@@ -34,14 +35,7 @@ fn sparse_route(gather: usize, n: usize, some: usize, full: usize) -> u8
 }
 
 // The route for n fields, the first of which has a mask or not.
-pub fn route_by(
-    layout: Layout,
-    n: usize,
-    masked: bool,
-    some: usize,
-    full: usize,
-    gather: usize,
-) -> u8
+fn route_by(layout: Layout, n: usize, masked: bool, some: usize, full: usize, gather: usize) -> u8
     requires { ⌜ full ≤ n ⌝ }
     ensures { λ r. ⌜ r ≡ routeBy layout n masked some full gather ⌝ }
 {
@@ -58,4 +52,13 @@ pub fn route_by(
         Layout::Sparse => sparse_route(gather, n, some, full),
         Layout::Dense => 3,
     }
+}
+
+// The route for the fields of an array.
+pub fn route_for(layout: Layout, fs: Fields, gather: usize) -> u8
+    requires { ⌜ fs .full ≤ fs .count ⌝ }
+    ensures { λ r. ⌜ r ≡ routeFor layout fs gather ⌝ }
+{
+    let first = fs.list[0];
+    route_by(layout, fs.count, first.masked, fs.some, fs.full, gather)
 }

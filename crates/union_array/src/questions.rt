@@ -76,6 +76,7 @@ fn offsets_match(l: Layout, len: usize, n: usize) -> bool
     }
 }
 
+// Whether the layout is dense.
 fn is_dense(l: Layout) -> bool
     ensures { λ r. ⌜ r ≡ isDense l ⌝ }
 {
@@ -85,6 +86,7 @@ fn is_dense(l: Layout) -> bool
     }
 }
 
+// Whether an id is 0 to 127.
 fn valid_id(id: i8) -> bool
     ensures { λ r. ⌜ r ≡ validId id ⌝ }
 {
@@ -129,6 +131,7 @@ fn fault(c: Column, again: bool, lent: Amounts, n: usize, dense: bool) -> u8
     7
 }
 
+// The lesser of two numbers.
 fn least(a: u8, b: u8) -> u8
     ensures { λ r. ⌜ r ≡ leastOf a b ⌝ }
 {
@@ -242,6 +245,7 @@ fn first_no(a: u8, b: u8) -> u8
     k
 }
 
+// The array but for its columns.
 fn head_of(a: UnionArray) -> Head
     ensures { λ r. ⌜ r ≡ headOf a ⌝ }
 {
@@ -257,6 +261,7 @@ fn head_of(a: UnionArray) -> Head
     }
 }
 
+// The answer of a refused call.
 fn refused(refusal: u8) -> Looked
     ensures { λ r. ⌜ r ≡ notLooked refusal ⌝ }
 {

@@ -1,22 +1,16 @@
 use borrow.Author.Needs.{needs}
 use Rattle.logical_nulls.proofs.words.by_step.Statement.{statement}
 use Rattle.logical_nulls.proofs.words.by_step.Tie as tie
-use Rattle.logical_nulls.proofs.words.by_step.Reads as reads
-use Rattle.logical_nulls.proofs.words.by_step.Lts as lts
 
--- src/words.rt:134:27
 enum-told : tie.Need-enum-told
 enum-told c = search needs
 
--- src/words.rt:135:26
 enum-told-2 : tie.Need-enum-told-2
 enum-told-2 c = search needs
 
--- src/words.rt:130:1
 returns : tie.Need-returns
-returns c = ?
+returns c = rw (c .enum-told .given .1)
 
--- src/words.rt:130:1
 returns-2 : tie.Need-returns-2
 returns-2 c = search needs
 

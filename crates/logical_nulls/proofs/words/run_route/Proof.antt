@@ -1,31 +1,34 @@
+use mathlib.Core.Path.{_≡_, sym, _∙_}
+use native.Mathlib.Omega.{arith}
+use lib.ListN.{length, length-map}
+use Rattle.logical_nulls.proofs.Masks.{short, count-in, answered}
 use borrow.Author.Needs.{needs}
 use Rattle.logical_nulls.proofs.words.run_route.Statement.{statement}
 use Rattle.logical_nulls.proofs.words.run_route.Tie as tie
-use Rattle.logical_nulls.proofs.words.run_route.Reads as reads
-use Rattle.logical_nulls.proofs.words.run_route.Lts as lts
-use Rattle.bitmap.proofs.null_count.Reads as null-count-reads
-use Rattle.logical_nulls.proofs.words.answer_on.Reads as answer-on-reads
-use Rattle.logical_nulls.proofs.words.write_mask.Reads as write-mask-reads
 
--- src/words.rt:181:5
 write-mask-requires : tie.Need-write-mask-requires
 write-mask-requires c κs = search needs
 
--- src/words.rt:182:9
 null-count-requires : tie.Need-null-count-requires
-null-count-requires c κs = ?
+null-count-requires c κs =
+    let st = c .before .before .before .before .before .before .before in
+    let a = st .args in
+    let full : length (a .array .columns) ≡ 128 = sym (length-map (a .array .columns) _) ∙ st .good .0 .1 .1 .0 .1 .0 .1 in
+    let w = c .before .before .before .write-mask .ensures in
+    (omega (arith, count-in (a .array) (a .fs) (a .route) (a .ids .now) (a .offsets .now) (a .masks .now) (a .out .now) full (st .pre .0) _ w), omega (arith, short (a .array) (a .fs) (a .route) (a .ids .now) (a .offsets .now) (a .masks .now) (a .out .now) full (st .pre .0)))
 
--- src/words.rt:183:5
 answer-on-requires : tie.Need-answer-on-requires
 answer-on-requires c κs = search needs
 
--- src/words.rt:169:1
 same-length : tie.Need-same-length
 same-length c = search needs
 
--- src/words.rt:169:1
 returns : tie.Need-returns
-returns c = ?
+returns c =
+    let st = c .before .before .before .before .before .before .before .before .before in
+    let a = st .args in
+    let full : length (a .array .columns) ≡ 128 = sym (length-map (a .array .columns) _) ∙ st .good .0 .1 .1 .0 .1 .0 .1 in
+    answered (a .array) (a .fs) (a .route) (a .ids .now) (a .offsets .now) (a .masks .now) (a .out .now) full (st .pre .0) _ _ _ (st .pre .1) (c .before .before .before .before .before .write-mask .ensures) (c .before .null-count .ensures) (c .answer-on .ensures)
 
 pub run-route-spec : {M : Type 1} → statement M
 run-route-spec =

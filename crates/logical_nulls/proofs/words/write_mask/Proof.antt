@@ -1,57 +1,75 @@
+-- What each way writes is the null mask. Assumes nothing.
+use mathlib.Core.Path.{_≡_, sym, _∙_}
+use mathlib.Core.Bool.{not}
+use lib.Dec.{eqb}
+use lib.ListN.{length, length-map}
+use Rattle.logical_nulls.proofs.Masks.{not-sparse, short, nulls-alone, stepped, steps-on, some-fields, few-fields, plain-ids, gathers-on, gathered}
 use borrow.Author.Needs.{needs}
 use Rattle.logical_nulls.proofs.words.write_mask.Statement.{statement}
 use Rattle.logical_nulls.proofs.words.write_mask.Tie as tie
-use Rattle.logical_nulls.proofs.words.write_mask.Reads as reads
-use Rattle.logical_nulls.proofs.words.write_mask.Lts as lts
-use Rattle.logical_nulls.proofs.table.fill.Reads as fill-reads
-use Rattle.logical_nulls.proofs.words.by_step.Reads as by-step-reads
-use Rattle.logical_nulls.proofs.words.write_gathered.Reads as write-gathered-reads
-use Rattle.logical_nulls.proofs.words.write_nulls.Reads as write-nulls-reads
-use Rattle.logical_nulls.proofs.words.write_steps.Reads as write-steps-reads
 
--- src/words.rt:155:9
 write-nulls-requires : tie.Need-write-nulls-requires
-write-nulls-requires c κs = ?
+write-nulls-requires c κs =
+    let st = c .before .before .before .before in
+    let a = st .args in
+    let full : length (a .array .columns) ≡ 128 = sym (length-map (a .array .columns) _) ∙ st .good .0 .1 .1 .0 .1 .0 .1 in
+    (short (a .array) (a .fs) (a .route) (a .ids .now) (a .offsets .now) (a .masks .now) (a .out .now) full (st .pre), st .pre .lent)
 
--- src/words.rt:156:9
 same-length : tie.Need-same-length
 same-length c = search needs
 
--- src/words.rt:156:9
 returns : tie.Need-returns
-returns c = ?
+returns c =
+    let st = c .before .before .before .before .before .before .before in
+    let a = st .args in
+    let full : length (a .array .columns) ≡ 128 = sym (length-map (a .array .columns) _) ∙ st .good .0 .1 .1 .0 .1 .0 .1 in
+    c .before .before .write-nulls .ensures ∙ nulls-alone (a .array) (a .fs) (a .route) (a .ids .now) (a .offsets .now) (a .masks .now) (a .out .now) full (st .pre) (c .before .before .before .before .if1 .taken)
 
--- src/words.rt:159:8
 by-step-requires : tie.Need-by-step-requires
 by-step-requires c κs = search needs
 
--- src/words.rt:160:9
 write-steps-requires : tie.Need-write-steps-requires
-write-steps-requires c κs = ?
+write-steps-requires c κs =
+    let st = c .before .before .before .before .before .before in
+    let a = st .args in
+    let full : length (a .array .columns) ≡ 128 = sym (length-map (a .array .columns) _) ∙ st .good .0 .1 .1 .0 .1 .0 .1 in
+    let e = not-sparse (a .array .layout) (not (eqb (a .route) 3)) (sym (c .before .before .by-step .ensures) ∙ c .before .if2 .taken) in
+    ((short (a .array) (a .fs) (a .route) (a .ids .now) (a .offsets .now) (a .masks .now) (a .out .now) full (st .pre), st .pre .lent, some-fields (a .array) (a .fs) (a .route) (a .ids .now) (a .offsets .now) (a .masks .now) (a .out .now) full (st .pre)), steps-on (a .array) (a .fs) (a .route) (a .ids .now) (a .offsets .now) (a .masks .now) (a .out .now) full (st .pre) e)
 
--- src/words.rt:161:9
 same-length-2 : tie.Need-same-length-2
 same-length-2 c = search needs
 
--- src/words.rt:161:9
 returns-2 : tie.Need-returns-2
-returns-2 c = ?
+returns-2 c =
+    let st = c .before .before .before .before .before .before .before .before .before in
+    let a = st .args in
+    let full : length (a .array .columns) ≡ 128 = sym (length-map (a .array .columns) _) ∙ st .good .0 .1 .1 .0 .1 .0 .1 in
+    let e = not-sparse (a .array .layout) (not (eqb (a .route) 3)) (sym (c .before .before .before .before .before .by-step .ensures) ∙ c .before .before .before .before .if2 .taken) in
+    c .before .before .write-steps .ensures ∙ stepped (a .array) (a .fs) (a .route) (a .ids .now) (a .offsets .now) (a .masks .now) (a .out .now) full (st .pre) e
 
--- src/words.rt:163:9
 fill-requires : tie.Need-fill-requires
-fill-requires c κs = ?
+fill-requires c κs =
+    let st = c .before .before .before .before .before in
+    let a = st .args in
+    let full : length (a .array .columns) ≡ 128 = sym (length-map (a .array .columns) _) ∙ st .good .0 .1 .1 .0 .1 .0 .1 in
+    (few-fields (a .array) (a .fs) (a .route) (a .ids .now) (a .offsets .now) (a .masks .now) (a .out .now) full (st .pre), plain-ids (a .array) (a .fs) (a .route) (a .ids .now) (a .offsets .now) (a .masks .now) (a .out .now) full (st .pre))
 
--- src/words.rt:165:5
 write-gathered-requires : tie.Need-write-gathered-requires
-write-gathered-requires c κs = ?
+write-gathered-requires c κs =
+    let st = c .before .before .before .before .before .before .before in
+    let a = st .args in
+    let full : length (a .array .columns) ≡ 128 = sym (length-map (a .array .columns) _) ∙ st .good .0 .1 .1 .0 .1 .0 .1 in
+    ((short (a .array) (a .fs) (a .route) (a .ids .now) (a .offsets .now) (a .masks .now) (a .out .now) full (st .pre), st .pre .lent), gathers-on (a .array) (a .fs) (a .route) (a .ids .now) (a .offsets .now) (a .masks .now) (a .out .now) full (st .pre) (c .before .fill .result) (c .before .fill .ensures))
 
--- src/words.rt:140:1
 same-length-3 : tie.Need-same-length-3
 same-length-3 c = search needs
 
--- src/words.rt:140:1
 returns-3 : tie.Need-returns-3
-returns-3 c = ?
+returns-3 c =
+    let st = c .before .before .before .before .before .before .before .before .before .before in
+    let a = st .args in
+    let full : length (a .array .columns) ≡ 128 = sym (length-map (a .array .columns) _) ∙ st .good .0 .1 .1 .0 .1 .0 .1 in
+    c .before .before .write-gathered .ensures ∙ gathered (a .array) (a .fs) (a .route) (a .ids .now) (a .offsets .now) (a .masks .now) (a .out .now) full (st .pre) (c .before .before .before .before .fill .result) (c .before .before .before .before .fill .ensures)
 
 pub write-mask-spec : {M : Type 1} → statement M
 write-mask-spec =

@@ -1,6 +1,6 @@
-use borrow.Author.Tests.{not-true, not-false}
 use mathlib.Core.Path.{sym, _∙_}
-use borrow.Author.Tests.{le-leb, lt-leb}
+use native.Mathlib.Omega.{arith}
+use borrow.Author.Tests.{le-leb, lt-leb, not-true, not-false}
 use borrow.Author.Needs.{needs}
 use Rattle.union_array.specs.Questions.{columnIn}
 use Rattle.union_array.proofs.questions.column_in.Statement.{statement}
@@ -8,7 +8,7 @@ use Rattle.union_array.proofs.questions.column_in.Tie as tie
 
 returns : tie.Need-returns
 unfolding columnIn
-returns c = rw (lt-leb (c .before .before .args .c .size) 32 (c .if1 .taken))
+returns c = rw (lt-leb (c .before .before .args .c .size) 32 (omega arith))
 
 cast-part-in : tie.Need-cast-part-in
 cast-part-in c = search needs
@@ -20,7 +20,7 @@ returns-2 : tie.Need-returns-2
 unfolding columnIn
 returns-2 c =
     let i = c .before .before .before in
-    rw (le-leb (i .before .before .args .c .size) 32 (i .if1 .left), sym (c .before .part-in .ensures) ∙ not-true _ (c .if2 .taken))
+    rw (le-leb (i .before .before .args .c .size) 32 (omega arith), sym (c .before .part-in .ensures) ∙ not-true _ (c .if2 .taken))
 
 cast-part-in-2 : tie.Need-cast-part-in-2
 cast-part-in-2 c = search needs
@@ -34,7 +34,7 @@ returns-3 c =
     let i = c .before .before .before in
     let h = i .before .before .before in
     rw (
-      le-leb (h .before .before .args .c .size) 32 (h .if1 .left),
+      le-leb (h .before .before .args .c .size) 32 (omega arith),
       sym (i .before .part-in .ensures) ∙ not-false _ (i .if2 .left),
       sym (c .before .part-in2 .ensures) ∙ not-true _ (c .if3 .taken),
     )
@@ -49,7 +49,7 @@ returns-4 c =
     let i2 = i3 .before .before .before in
     let i1 = i2 .before .before .before in
     rw (
-      le-leb (i1 .before .before .args .c .size) 32 (i1 .if1 .left),
+      le-leb (i1 .before .before .args .c .size) 32 (omega arith),
       sym (i2 .before .part-in .ensures) ∙ not-false _ (i2 .if2 .left),
       sym (i3 .before .part-in2 .ensures) ∙ not-false _ (i3 .if3 .left),
       c .before .if4 .taken,
@@ -63,7 +63,7 @@ returns-5 c =
     let i2 = i3 .before .before .before in
     let i1 = i2 .before .before .before in
     rw (
-      le-leb (i1 .before .before .args .c .size) 32 (i1 .if1 .left),
+      le-leb (i1 .before .before .args .c .size) 32 (omega arith),
       sym (i2 .before .part-in .ensures) ∙ not-false _ (i2 .if2 .left),
       sym (i3 .before .part-in2 .ensures) ∙ not-false _ (i3 .if3 .left),
       c .if4 .left,
