@@ -2,3 +2,6 @@
 pub mod Numbers
 pub mod Maps
 pub mod Boundary
+pub mod Places
+pub mod Runs
+pub mod Readings

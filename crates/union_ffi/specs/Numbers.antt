@@ -41,6 +41,10 @@ isCase kind masked = isKind kind && isFlag masked
 abbrev pub badNumber : ℕ
 badNumber = 128
 
+-- of a run: "a slice does not have the length that the run wants"
+abbrev pub badLength : ℕ
+badLength = 129
+
 -- one answer where the numbers name cases, the answer of a refusal by 128 where they do not
 abbrev pub atBoundary : {A : Type 0} → Bool → A → A → A
 atBoundary ok answer refused = cond ok answer refused

@@ -1,7 +1,10 @@
 // The calls for C and Rust: plain numbers, C structs of numbers, and slices.
+pub mod appends;
 pub mod array;
 pub mod builder;
 pub mod convert;
+pub mod nulls;
+pub mod values;
 
 // A column list's entry. `kind` is 0 to 9 in the order of `union_array::Kind`, `masked` 0 or 1.
 #[repr(C)]
@@ -137,4 +140,10 @@ pub struct CFinished {
     pub builder: CBuilder,
     pub array: CArray,
     pub refusal: u8,
+}
+
+// A slot's value, as a run tells it.
+pub struct SlotValue {
+    pub bits: u64,
+    pub missing: u8,
 }
