@@ -27,8 +27,8 @@ static uint8_t names[128 * 32];
 #define LENT ids, SLOTS, offsets, SLOTS, values, sizeof values / 8, masks, sizeof masks / 8, names, sizeof names
 
 /* A builder of SLOTS slots, with every seventh reading missing, spread over the columns. */
-static struct union_builder filled(int layout, int fields, int n) {
-    struct union_built b = layout ? union_builder_with_capacity_dense(SLOTS, 128, LENT) : union_builder_with_capacity_sparse(SLOTS, 128, LENT);
+static union_builder filled(int layout, int fields, int n) {
+    union_built b = layout ? union_builder_with_capacity_dense(SLOTS, 128, LENT) : union_builder_with_capacity_sparse(SLOTS, 128, LENT);
     for (int i = 0; i < n; i++) {
         char name[8];
         int size = sprintf(name, "u%03d", i % fields);
@@ -46,14 +46,14 @@ int main(int argc, char **argv) {
     const char *call = argv[1];
     int fields = atoi(argv[2]), layout = atoi(argv[3]), n = atoi(argv[4]);
     if (!strcmp(call, "append")) {
-        struct union_builder b = filled(layout, fields, fields + n);
+        union_builder b = filled(layout, fields, fields + n);
 #ifdef COPIES
         printf("%zu %zu\n", large, bytes);
 #endif
         return b.len != (size_t)(fields + n);
     }
-    struct union_builder b = filled(layout, fields, SLOTS);
-    struct union_finished f = union_builder_finish_cloned(b, LENT);
+    union_builder b = filled(layout, fields, SLOTS);
+    union_finished f = union_builder_finish_cloned(b, LENT);
     uint64_t sum = 0;
     for (int i = 0; i < n; i++) {
         if (!strcmp(call, "value")) sum += union_array_value(f.array, i % SLOTS, LENT).bits;
