@@ -44,6 +44,8 @@ for dense in (False, True):
         read_back(dense, list(range(count)))
         print(" slice from slot 1: 0")
         read_back(dense, list(range(1, count)))
+        print(" snapshot taken at slot %d" % (count // 2))
+        read_back(dense, list(range(count // 2)))
 # "Append b, then a: fields listed a (id 1), b (id 0)."
 print("b0a0 0 0")
 print(" fields 2, first name at 32, second at 0")

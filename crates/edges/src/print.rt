@@ -63,3 +63,10 @@ pub fn slice(refusal: u8) {
     small(refusal);
     end();
 }
+
+// A snapshot's line.
+pub fn snapshot(slots: usize) {
+    text(b" snapshot taken at slot");
+    size(slots);
+    end();
+}

@@ -5,7 +5,7 @@ use crate::print;
 use crate::script;
 use union_array::UnionArray;
 use union_builder::UnionBuilder;
-ghost use Prim.Native.Nat.{_<_, _≤_};
+ghost use Prim.Native.Nat.{_≤_};
 
 // How many of the entries from `first` to `end` - 1 the array's slots 0, 1, .. have.
 fn count_entries(
@@ -58,9 +58,10 @@ fn described(
     values: &[u64],
     masks: &[u64],
     names: &[u8],
-)
-    requires { ⌜ 0 < n ⌝ }
-{
+) {
+    if n < 1 {
+        return;
+    }
     let f = b.finish_cloned(ids, offsets, values, masks, names);
     let a = f.array;
     read_back(a, 0, n, ids, offsets, values, masks, names);
@@ -70,21 +71,23 @@ fn described(
     read_back(part, 1, n, ids, offsets, values, masks, names);
 }
 
-// A builder of `capacity` slots.
+// A builder of `capacity` slots is lent one entry more; a snapshot is taken half way, and read back with the rest.
 pub fn round(dense: bool, capacity: usize)
-    requires { ⌜ (0 < capacity) × (capacity ≤ 65) ⌝ }
+    requires { ⌜ capacity ≤ 65 ⌝ }
 {
     let mut ids = [0i8; 65];
     let mut offsets = [0i32; 65];
     let mut values = [0u64; 195];
     let mut masks = [0u64; 6];
     let mut names = [0u8; 96];
+    let half = capacity / 2;
+    let all = capacity + 1;
     print::round(dense, capacity);
     let b = script::played(
         dense,
         capacity,
         b"a2b2a-b2a2b-",
-        capacity + 1,
+        half,
         false,
         &mut ids,
         &mut offsets,
@@ -92,5 +95,20 @@ pub fn round(dense: bool, capacity: usize)
         &mut masks,
         &mut names,
     );
-    described(b, capacity, &ids, &offsets, &values, &masks, &names);
+    let f = b.finish_cloned(&ids, &offsets, &values, &masks, &names);
+    let full = script::play(
+        b,
+        b"a2b2a-b2a2b-",
+        half,
+        all,
+        false,
+        &mut ids,
+        &mut offsets,
+        &mut values,
+        &mut masks,
+        &mut names,
+    );
+    described(full, capacity, &ids, &offsets, &values, &masks, &names);
+    print::snapshot(half);
+    read_back(f.array, 0, half, &ids, &offsets, &values, &masks, &names);
 }

@@ -93,7 +93,31 @@ fn made(
     m.builder
 }
 
-// A builder after entries 0 to n - 1. The appends' numbers are printed: each, or the refusals on lines.
+// A builder after entries `first` to `end` - 1 more. The appends' numbers are printed: each, or the refusals on lines.
+pub fn play(
+    start: UnionBuilder,
+    script: &[u8],
+    first: usize,
+    end: usize,
+    each: bool,
+    ids: &mut [i8],
+    offsets: &mut [i32],
+    values: &mut [u64],
+    masks: &mut [u64],
+    names: &mut [u8],
+) -> UnionBuilder
+    requires { ⌜ 1 < length (now script) ⌝ }
+{
+    let mut b = start;
+    for i in first..end {
+        let r = put(b, script, i, ids, offsets, values, masks, names);
+        b = r.builder;
+        print::appended(each, r.refusal);
+    }
+    b
+}
+
+// A new builder after entries 0 to n - 1.
 pub fn played(
     dense: bool,
     capacity: usize,
@@ -108,11 +132,6 @@ pub fn played(
 ) -> UnionBuilder
     requires { ⌜ 1 < length (now script) ⌝ }
 {
-    let mut b = made(dense, capacity, ids, offsets, values, masks, names);
-    for i in 0..n {
-        let r = put(b, script, i, ids, offsets, values, masks, names);
-        b = r.builder;
-        print::appended(each, r.refusal);
-    }
-    b
+    let b = made(dense, capacity, ids, offsets, values, masks, names);
+    play(b, script, 0, n, each, ids, offsets, values, masks, names)
 }
