@@ -8,6 +8,7 @@ use arrow_array::{Array, ArrayRef, ArrowPrimitiveType, PrimitiveArray, UnionArra
 use arrow_array::{cast::AsArray, setting};
 use arrow_buffer::{ArrowNativeType, BooleanBuffer, Buffer, NullBuffer, ScalarBuffer, watch};
 use arrow_schema::{ArrowError, DataType, Field, UnionFields};
+use std::cell::Cell;
 use std::panic::{AssertUnwindSafe, catch_unwind};
 use std::sync::Arc;
 
@@ -51,9 +52,24 @@ impl<T> Outcome<T> {
     }
 }
 
+thread_local! { static CATCHING: Cell<bool> = const { Cell::new(false) }; }
+
+/// Keeps caught panics off the screen.
+pub fn quiet() {
+    let shown = std::panic::take_hook();
+    std::panic::set_hook(Box::new(move |panic| {
+        if !CATCHING.get() {
+            shown(panic)
+        }
+    }));
+}
+
 /// Runs a call and catches its panic.
 fn caught<T>(call: impl FnOnce() -> Result<T, ArrowError>) -> Outcome<T> {
-    match catch_unwind(AssertUnwindSafe(call)) {
+    CATCHING.set(true);
+    let ended = catch_unwind(AssertUnwindSafe(call));
+    CATCHING.set(false);
+    match ended {
         Ok(Ok(answer)) => Outcome::Answer(answer),
         Ok(Err(error)) => Outcome::Refused(error.to_string()),
         Err(panic) => {
@@ -68,11 +84,6 @@ fn caught<T>(call: impl FnOnce() -> Result<T, ArrowError>) -> Outcome<T> {
 
 fn asked<T>(call: impl FnOnce() -> T) -> Outcome<T> {
     caught(|| Ok(call()))
-}
-
-/// Keeps caught panics off the screen.
-pub fn quiet() {
-    std::panic::set_hook(Box::new(|_| ()));
 }
 
 // ----------------------------------------------------------------------------------------------------------- kinds
@@ -174,6 +185,7 @@ fn child_of<T: ArrowPrimitiveType<Native: Word>>(words: &[u64], nulls: Option<Nu
 
 /// The batch's parts as the original's. Panics if one is not in lent memory.
 fn parts_of(batch: &Batch, lent: &Lent) -> Parts {
+    assert!(batch.fields.max(batch.children) <= 256, "a list of columns that can be made");
     let masks = Buffer::from_slice_ref(&lent.masks);
     let name = |column: &Column| text_of(&lent.names[column.name..][..column.size]);
     let field = |column: &Column| Arc::new(Field::new(name(column), data_type_of(column.kind), true));
