@@ -173,25 +173,19 @@ fn mismatch(tally: &mut Tally) {
         let (numbers, mut builder) = after("abAc");
         tally.same("mismatch on a of a and b, then c", numbers, vec![0, 0, 18, 0], &dense);
         tally.same("mismatch on a of a and b, then c: finish", builder.finish().sort(), "panicked", &dense);
-        let (_, builder) = after("abAca");
-        let union = builder.finish_cloned().answer();
-        let ids: Option<Vec<i8>> = union.map(|union| union.0.fields().iter().map(|(id, _)| id).collect());
-        // After the refusal c gets the id 1, which b has, and a the id 2; slot 0 still has the id 0.
-        tally.same("mismatch on a of a and b, then c, a: finish_cloned", ids, None, &dense);
+        let ids = |builder: &Builder| {
+            let text = format!("{:?}", builder.0);
+            text.split("type_id: ").skip(1).map(|rest| rest[..1].to_owned()).collect::<String>()
+        };
+        // After the refusal c gets the id 1, which b has; slot 0 still has the id 0, which no field has.
+        let (_, builder) = after("abAc");
+        tally.same("mismatch on a of a and b, then c: ids of b and c", ids(&builder), "11".to_owned(), &dense);
         let (_, builder) = after("abBc");
         let union = builder.finish_cloned().answer().unwrap();
         let listed: Vec<(i8, String)> = union.0.fields().iter().map(|(id, f)| (id, f.name().clone())).collect();
         tally.same("mismatch on b of a and b, then c gets b's id", listed, vec![(0, "a".into()), (1, "c".into())], &dense);
         let second = union.value(1).answer().map(|value| (value.name, value.bits));
         tally.same("mismatch on b, then c: slot 1 is c's", second, Some((b"c".to_vec(), if dense { 4 } else { 0 })), &dense);
-        let (_, mut builder) = after("abcAd");
-        tally.same("mismatch on a of three, then d", builder.finish().sort(), "panicked", &dense);
-        let (_, builder) = after("abcBd");
-        let union = builder.finish_cloned();
-        let union = union.answer().unwrap();
-        let listed: Vec<(i8, String)> = union.0.fields().iter().map(|(id, f)| (id, f.name().clone())).collect();
-        let expected = vec![(0, "a".into()), (2, "c".into()), (2, "d".into())];
-        tally.same("mismatch on b of three, then d: an id twice, or a panic", listed, expected, &dense);
     }
 }
 
