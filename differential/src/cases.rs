@@ -1,7 +1,7 @@
 //! Inputs: short ones exhaustively, random ones around the sizes where something changes, damaged copies, chains of
 //! slices, lists of builder calls.
 
-use crate::plain::{Case, Column, Kind, add_column, without_columns};
+use crate::plain::{Case, Column, Growing, Kind, State, add_column, without_columns};
 
 /// Random numbers that a seed gives again (splitmix64).
 #[derive(Clone)]
@@ -270,7 +270,7 @@ pub fn damage(random: &mut Random, case: &mut Case) {
     let fields = batch.columns.len();
     let k = if fields > 0 { random.below(fields) } else { 0 };
     let slot = if batch.count > 0 { random.below(batch.count) } else { 0 };
-    match random.below(24) {
+    match random.below(25) {
         0 => batch.dense = !batch.dense,
         1 => batch.fields = moved(random, batch.fields),
         2 => batch.children = moved(random, batch.children),
@@ -301,11 +301,32 @@ pub fn damage(random: &mut Random, case: &mut Case) {
 fn damage_column(random: &mut Random, column: &mut Column, fault: usize) {
     match fault {
         18 => column.id = random.next() as i8,
-        19 => column.slots = moved(random, column.slots),
+        19 => column.slots = moved(random, column.slots).min(u32::MAX as usize),
         20 => column.values = moved(random, column.values),
         21 => column.mask = moved(random, column.mask),
+        23 => column.bit = random.next() as u8,
         22 => (column.name, column.size) = (moved(random, column.name), random.pick(&[0, 1, 31, 32, 33, 255])),
         _ => column.masked = !column.masked,
+    }
+}
+
+/// Puts one fault into a builder's state.
+pub fn damage_state(random: &mut Random, state: &mut State) {
+    match random.below(8) {
+        0 => state.capacity = random.pick(&[0, 65_537, usize::MAX]),
+        1 => state.limit = random.pick(&[0, 129, usize::MAX]),
+        2 => state.len = random.pick(&[state.capacity + 1, usize::MAX]),
+        3 => state.limit = state.columns.len().saturating_sub(1),
+        4 if !state.dense => state.len = state.len.wrapping_sub(1),
+        5 => state.dense = !state.dense,
+        _ => {
+            let column =
+                Growing { kind: Kind::Int8, size: random.pick(&[0, 33, 255]), slots: state.len + 1, masked: false };
+            match state.columns.last_mut() {
+                Some(last) => *last = column,
+                None => state.columns.push(column),
+            }
+        }
     }
 }
 
@@ -322,7 +343,12 @@ pub fn slices(random: &mut Random, mut count: usize) -> Vec<(usize, usize)> {
     }
     if random.one_in(8) {
         let start = random.below(count + 2);
-        chain.push(random.pick(&[(start, count - start.min(count) + 1), (usize::MAX, 1), (1, usize::MAX), (count + 1, 0)]));
+        chain.push(random.pick(&[
+            (start, count - start.min(count) + 1),
+            (usize::MAX, 1),
+            (1, usize::MAX),
+            (count + 1, 0),
+        ]));
     }
     chain
 }
@@ -398,7 +424,12 @@ fn odd_name(random: &mut Random) -> Vec<u8> {
     match random.below(4) {
         0 => vec![b'x'; 33],
         1 => vec![0xff],
-        2 => random.pick(&[vec![0xc0, 0x80], vec![0xed, 0xa0, 0x80], vec![0xf4, 0x90, 0x80, 0x80], vec![b'a', 0xe2, 0x82]]),
+        2 => random.pick(&[
+            vec![0xc0, 0x80],
+            vec![0xed, 0xa0, 0x80],
+            vec![0xf4, 0x90, 0x80, 0x80],
+            vec![b'a', 0xe2, 0x82],
+        ]),
         _ => (0..random.below(6)).map(|_| random.next() as u8).collect(),
     }
 }

@@ -1,8 +1,9 @@
 //! Where the original and document 01 part, each on a smallest input, each run. NOTES.md tells them in words.
 
+use crate::compare::number;
 use crate::oracle::{Builder, Nulls, Outcome, Strategy, Union, drop_masks_without_null};
 use crate::plain::{Case, Kind, add_column, without_columns};
-use crate::selfcheck::{Tally, number};
+use crate::tally::Tally;
 
 fn try_new(case: &Case) -> Outcome<Union> {
     Union::try_new(&case.batch, &case.lent)
@@ -121,7 +122,12 @@ fn skip_one(tally: &mut Tally) {
     tally.same("SkipOne, M 0 of 2, 64 slots", skip_one(&union).sort(), "panicked", &());
     let dense = try_new(&batch(&[0, 1], Some(&[1, 0]), &[(0, &[None, Some(1)]), (1, NULL)])).answer().unwrap();
     let of = |strategy| dense.strategy(strategy).answer().map(|nulls| nulls.bits[0]);
-    tally.same("dense: SkipOne goes by the slot, not the offset", (of(Strategy::Gather), of(Strategy::SkipOne)), (Some(1), Some(0)), &());
+    tally.same(
+        "dense: SkipOne goes by the slot, not the offset",
+        (of(Strategy::Gather), of(Strategy::SkipOne)),
+        (Some(1), Some(0)),
+        &(),
+    );
     let one = try_new(&batch(&[0], None, &[(0, NULL)])).answer().unwrap();
     tally.same("SkipOne of one field", skip_one(&one).answer().unwrap().bits, vec![0], &());
 }
@@ -183,9 +189,19 @@ fn mismatch(tally: &mut Tally) {
         let (_, builder) = after("abBc");
         let union = builder.finish_cloned().answer().unwrap();
         let listed: Vec<(i8, String)> = union.0.fields().iter().map(|(id, f)| (id, f.name().clone())).collect();
-        tally.same("mismatch on b of a and b, then c gets b's id", listed, vec![(0, "a".into()), (1, "c".into())], &dense);
+        tally.same(
+            "mismatch on b of a and b, then c gets b's id",
+            listed,
+            vec![(0, "a".into()), (1, "c".into())],
+            &dense,
+        );
         let second = union.value(1).answer().map(|value| (value.name, value.bits));
-        tally.same("mismatch on b, then c: slot 1 is c's", second, Some((b"c".to_vec(), if dense { 4 } else { 0 })), &dense);
+        tally.same(
+            "mismatch on b, then c: slot 1 is c's",
+            second,
+            Some((b"c".to_vec(), if dense { 4 } else { 0 })),
+            &dense,
+        );
     }
 }
 

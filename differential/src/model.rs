@@ -1,8 +1,10 @@
-//! Document 01 written down plainly, to test the original over the stand-ins with. The comparison of the port is
-//! with the original; this is only asked what the original does not know: the numbers of questions it never asks.
+//! Document 01 written down plainly. The port is compared with the original; this is asked only for what the original
+//! does not know: the numbers of questions that it never asks, and where things stand in memory. In the port's place
+//! it tests the original over the stand-ins.
 
-use crate::oracle::{Nulls, Strategy, Value};
-use crate::plain::{Batch, Case, Column, Kind};
+use crate::compare::{Mask, Port};
+use crate::oracle::{Child, Strategy, Value};
+use crate::plain::{Batch, Case, Column, Growing, Kind, Lent, State};
 
 fn within(start: u128, length: u128, lent: u128) -> bool {
     start + length <= lent
@@ -68,6 +70,15 @@ impl Case {
         !self.batch.dense || usize::try_from(self.offset(slot)).is_ok_and(|offset| offset < slots)
     }
 
+    /// Questions 7 and 8 of one slot.
+    pub fn slot_no(&self, slot: usize) -> u8 {
+        match () {
+            _ if self.named(self.type_id(slot)).is_none() => 7,
+            _ if !self.offset_within(slot) => 8,
+            _ => 0,
+        }
+    }
+
     /// What `try_new` answers.
     pub fn try_new(&self) -> u8 {
         let slots = || 0..self.batch.count;
@@ -113,10 +124,6 @@ impl Case {
         (with_null.clone().count(), with_null.filter(|(slots, nulls)| slots == nulls).count())
     }
 
-    pub fn is_nullable(&self) -> bool {
-        self.masked().0 > 0
-    }
-
     pub fn route(&self, gather_cost: usize) -> u8 {
         let fields = self.batch.fields;
         let (masked, full) = self.masked();
@@ -124,7 +131,13 @@ impl Case {
             return u8::from(self.in_use().any(|column| column.masked));
         }
         if masked == 0 || full == fields || self.batch.dense {
-            return if masked == 0 { 0 } else if full == fields { 2 } else { 3 };
+            return if masked == 0 {
+                0
+            } else if full == fields {
+                2
+            } else {
+                3
+            };
         }
         let mut best = (gather_cost, 3);
         let others = [(fields - 1, 4), (masked, 5), (fields - full, 6)];
@@ -144,16 +157,14 @@ impl Case {
         words
     }
 
-    /// The null mask of an accepted batch; `raw` is as `bits`.
-    pub fn null_mask(&self, gather_cost: usize) -> Nulls {
-        let route = self.route(gather_cost);
-        let null_count = (0..self.batch.count).filter(|slot| self.missing(*slot)).count();
-        let present = matches!(route, 1 | 2) || route != 0 && null_count > 0;
-        if !present {
-            return Nulls { present, route, null_count: 0, length: 0, bits: vec![], raw: vec![] };
-        }
-        let bits = self.bits(|slot| self.missing(slot));
-        Nulls { present, route, null_count, length: self.batch.count, raw: bits.clone(), bits }
+    /// The words of an accepted batch's null mask: bit i is clear exactly if slot i's child slot is null.
+    pub fn mask_words(&self) -> Vec<u64> {
+        self.bits(|slot| self.missing(slot))
+    }
+
+    /// The words of a mask without a null.
+    pub fn all_present(&self) -> Vec<u64> {
+        self.bits(|_| false)
     }
 
     /// Question 14.
@@ -164,7 +175,7 @@ impl Case {
     }
 
     /// Question 9, and the slice if it is answered yes.
-    pub fn slice(&self, start: usize, count: usize) -> Option<Case> {
+    pub fn sliced(&self, start: usize, count: usize) -> Option<Batch> {
         if !inside(start, count, self.batch.count) {
             return None;
         }
@@ -182,13 +193,46 @@ impl Case {
                 }
             }
         }
-        Some(Case { batch, lent: self.lent.clone() })
+        Some(batch)
+    }
+
+    pub fn over_32(&self) -> bool {
+        self.in_use().any(|column| column.size > 32)
+    }
+
+    /// What a column's child holds.
+    pub fn contents(&self, column: &Column) -> Child {
+        let words = &self.lent.values[column.values..][..column.slots];
+        let mask = column.masked.then(|| (0..column.slots).map(|place| self.present(column, place)).collect());
+        Child { kind: column.kind, words: words.iter().map(|word| column.kind.cut(*word)).collect(), mask }
+    }
+
+    /// The batch with its memory laid out anew, in list order and without gaps.
+    pub fn laid_out(&self) -> Case {
+        let slots = 0..self.batch.count;
+        let type_ids: Vec<i8> = slots.clone().map(|slot| self.type_id(slot)).collect();
+        let offsets: Option<Vec<i32>> = self.batch.dense.then(|| slots.map(|slot| self.offset(slot)).collect());
+        let mut case = crate::plain::without_columns(&type_ids, offsets.as_deref());
+        for column in self.in_use() {
+            let name = &self.lent.names[column.name..][..column.size];
+            case.add_child(column.id, name, &self.contents(column));
+        }
+        case
+    }
+
+    pub fn add_child(&mut self, id: i8, name: &[u8], child: &Child) {
+        let from = self.lent.values.len();
+        let set = |place: usize| child.mask.as_ref().is_none_or(|mask| mask[place]);
+        let slots: Vec<_> = (0..child.words.len()).map(|place| set(place).then_some(0)).collect();
+        crate::plain::add_column(self, id, child.kind, name, &slots, child.mask.is_some());
+        self.lent.values[from..].copy_from_slice(&child.words);
     }
 }
 
-/// Demand 3's book: the making's C and K, the columns and the entries.
+/// Demand 3's book: the making's layout, C and K, the columns and the entries.
 #[derive(Clone, Debug, Default)]
 pub struct Book {
+    pub dense: bool,
     pub capacity: usize,
     pub limit: usize,
     pub columns: Vec<(Vec<u8>, Kind)>,
@@ -216,52 +260,273 @@ impl Book {
         number
     }
 
-    /// The batch that `finish` describes, its memory laid out anew in list order.
-    pub fn describe(&self, dense: bool) -> Case {
-        let type_ids: Vec<i8> = self.entries.iter().map(|(place, _)| *place as i8).collect();
-        let before = |i: usize| self.entries[..i].iter().filter(|(place, _)| *place == self.entries[i].0).count();
-        let offsets: Vec<i32> = if dense { (0..type_ids.len()).map(|i| before(i) as i32).collect() } else { vec![] };
-        let mut case = crate::plain::without_columns(&type_ids, dense.then_some(&offsets));
+    /// The slots of a column: in dense its own entries, in sparse one to each entry, null if it is another column's.
+    fn slots(&self, place: usize) -> impl Iterator<Item = Option<u64>> + '_ {
+        let kept = self.entries.iter().filter(move |(of, _)| !self.dense || *of == place);
+        kept.map(move |(of, word)| if *of == place { *word } else { None })
+    }
+
+    /// The builder's state.
+    pub fn state(&self) -> State {
+        let column = |(place, (name, kind)): (usize, &(Vec<u8>, Kind))| Growing {
+            kind: *kind,
+            size: name.len(),
+            slots: self.slots(place).count(),
+            masked: self.slots(place).any(|slot| slot.is_none()),
+        };
+        State {
+            dense: self.dense,
+            capacity: self.capacity,
+            limit: self.limit,
+            len: self.entries.len(),
+            columns: self.columns.iter().enumerate().map(column).collect(),
+        }
+    }
+
+    /// Writes what the last entry's append writes.
+    pub fn write_last(&self, lent: &mut Lent) {
+        let last = self.entries.len() - 1;
+        let place = self.entries[last].0;
+        let is_new = self.entries[..last].iter().all(|(of, _)| *of != place);
+        lent.type_ids[last] = place as i8;
+        if is_new {
+            let name = &self.columns[place].0;
+            lent.names[32 * place..][..name.len()].copy_from_slice(name);
+        }
+        if self.dense {
+            lent.offsets[last] = self.slots(place).count() as i32 - 1;
+        }
+        for column in 0..self.columns.len() {
+            let slots: Vec<_> = self.slots(column).collect();
+            let from = match () {
+                _ if column == place && is_new => 0,
+                _ if column == place || !self.dense => slots.len() - 1,
+                _ => slots.len(),
+            };
+            for (slot, word) in slots.iter().enumerate().skip(from) {
+                lent.values[column * self.capacity + slot] = word.unwrap_or(0);
+                lent.set_mask_bit(64 * column * self.capacity.div_ceil(64) + slot, word.is_some());
+            }
+        }
+    }
+
+    /// The batch that `finish` describes, over the builder's memory.
+    pub fn description(&self) -> Batch {
         let mut order: Vec<usize> = (0..self.columns.len()).collect();
         order.sort_by(|a, b| self.columns[*a].0.cmp(&self.columns[*b].0));
-        for place in order {
-            let own = |(of, word): &(usize, Option<u64>)| if *of == place { *word } else { None };
-            let kept = self.entries.iter().filter(|(of, _)| !dense || *of == place);
-            let slots: Vec<Option<u64>> = kept.map(own).collect();
-            let masked = slots.contains(&None);
-            let (name, kind) = &self.columns[place];
-            crate::plain::add_column(&mut case, place as i8, *kind, name, &slots, masked);
+        let state = self.state();
+        let column = |place: &usize| Column {
+            id: *place as i8,
+            kind: self.columns[*place].1,
+            name: 32 * place,
+            size: state.columns[*place].size,
+            values: place * self.capacity,
+            slots: state.columns[*place].slots,
+            masked: state.columns[*place].masked,
+            mask: place * self.capacity.div_ceil(64),
+            bit: 0,
+        };
+        let count = self.entries.len();
+        Batch {
+            dense: self.dense,
+            fields: order.len(),
+            children: order.len(),
+            start: 0,
+            count,
+            offsets_start: 0,
+            offsets_count: if self.dense { count } else { 0 },
+            columns: order.iter().map(column).collect(),
         }
-        case
     }
 }
 
-// What the tests ask besides.
-impl Case {
-    pub fn over_32(&self) -> bool {
-        self.in_use().any(|column| column.size > 32)
+impl State {
+    /// Question 15.
+    pub fn is_fit(&self) -> bool {
+        let column = |c: &Growing| c.size <= 32 && c.slots <= self.len && (self.dense || c.slots == self.len);
+        (1..=65_536).contains(&self.capacity)
+            && (1..=128).contains(&self.limit)
+            && self.len <= self.capacity
+            && self.columns.len() <= self.limit
+            && self.columns.iter().all(column)
     }
 
-    pub fn names(&self) -> Vec<Vec<u8>> {
-        self.in_use().map(|column| self.lent.names[column.name..][..column.size].to_vec()).collect()
+    /// Question 16.
+    fn is_lent_enough(&self, lent: &Lent) -> bool {
+        let (c, k) = (self.capacity, self.limit);
+        lent.type_ids.len() >= c
+            && lent.offsets.len() >= c
+            && lent.values.len() >= k * c
+            && lent.masks.len() >= k * c.div_ceil(64)
+            && lent.names.len() >= 32 * k
     }
 
-    pub fn place(&self, slot: usize) -> usize {
-        self.child_slot(slot)
+    fn refusal(&self, lent: &Lent) -> u8 {
+        match () {
+            _ if !self.is_fit() => 15,
+            _ if !self.is_lent_enough(lent) => 16,
+            _ => 0,
+        }
     }
 
-    #[allow(clippy::type_complexity)]
-    pub fn child(&self, id: i8) -> Option<(Kind, Vec<u64>, Option<Vec<bool>>)> {
-        let column = self.named(id)?;
-        let words = self.lent.values[column.values..][..column.slots].iter().map(|word| column.kind.cut(*word));
-        let mask = column.masked.then(|| (0..column.slots).map(|place| self.present(column, place)).collect());
-        Some((column.kind, words.collect(), mask))
+    /// The book of which this is the state, read back from memory.
+    fn book(&self, lent: &Lent) -> Book {
+        let name = |place: usize, size: usize| lent.names[32 * place..][..size].to_vec();
+        let columns: Vec<_> = self.columns.iter().enumerate().map(|(k, c)| (name(k, c.size), c.kind)).collect();
+        let entry = |slot: usize| {
+            let place = lent.type_ids[slot] as usize;
+            let slot = if self.dense { lent.offsets[slot] as usize } else { slot };
+            let set = lent.mask_bit(64 * place * self.capacity.div_ceil(64) + slot);
+            (place, set.then(|| lent.values[place * self.capacity + slot]))
+        };
+        let entries = (0..self.len).map(entry).collect();
+        Book { dense: self.dense, capacity: self.capacity, limit: self.limit, columns, entries }
+    }
+}
+
+// ----------------------------------------------------------------------------------------------- in the port's place
+
+/// The model in the port's place: comparing it tests the original, the stand-ins and the comparison itself.
+pub struct Model;
+
+fn case(batch: &Batch, lent: &Lent) -> Case {
+    Case { batch: batch.clone(), lent: lent.clone() }
+}
+
+impl Model {
+    /// An answer to a slot lookup.
+    fn at<T: Default>(&self, batch: &Batch, lent: &Lent, slot: usize, answer: impl FnOnce(&Case) -> T) -> (u8, T) {
+        let case = case(batch, lent);
+        let number = match case.first_no() {
+            0 if slot >= batch.count => 10,
+            0 => case.slot_no(slot),
+            first => first,
+        };
+        (number, if number == 0 { answer(&case) } else { T::default() })
     }
 
-    /// What a named strategy answers, which is the same for all of them but for the number of its route.
-    pub fn named_mask(&self, route: u8) -> Nulls {
-        let null_count = (0..self.batch.count).filter(|slot| self.missing(*slot)).count();
-        let bits = self.bits(|slot| self.missing(slot));
-        Nulls { present: null_count > 0, route, null_count, length: self.batch.count, raw: bits.clone(), bits }
+    fn mask(&self, case: &Case, number: u8, route: u8, always: bool, out: &mut [u64]) -> (u8, Mask) {
+        let need = case.batch.count.div_ceil(64);
+        let number = if number == 0 && out.len() < need { 13 } else { number };
+        if number != 0 || route == 0 {
+            return (number, Mask::default());
+        }
+        out[..need].copy_from_slice(&case.mask_words());
+        let null_count = (0..case.batch.count).filter(|slot| case.missing(*slot)).count();
+        (0, Mask { present: always || null_count > 0, null_count, route })
+    }
+}
+
+impl Port for Model {
+    fn try_new(&self, batch: &Batch, lent: &Lent) -> u8 {
+        case(batch, lent).try_new()
+    }
+
+    fn child(&self, batch: &Batch, lent: &Lent, id: i8) -> (u8, Column) {
+        let case = case(batch, lent);
+        match (case.first_no(), case.named(id)) {
+            (0, Some(column)) => (0, column.clone()),
+            (0, None) => (11, Column::EMPTY),
+            (first, _) => (first, Column::EMPTY),
+        }
+    }
+
+    fn type_id(&self, batch: &Batch, lent: &Lent, slot: usize) -> (u8, i8) {
+        self.at(batch, lent, slot, |case| case.type_id(slot))
+    }
+
+    fn value_offset(&self, batch: &Batch, lent: &Lent, slot: usize) -> (u8, usize) {
+        self.at(batch, lent, slot, |case| case.child_slot(slot))
+    }
+
+    fn value(&self, batch: &Batch, lent: &Lent, slot: usize) -> (u8, Value) {
+        self.at(batch, lent, slot, |case| {
+            let stored = case.stored(slot);
+            Value { bits: if stored.missing { 0 } else { stored.bits }, ..stored }
+        })
+    }
+
+    fn type_names(&self, batch: &Batch, lent: &Lent) -> (u8, Vec<(usize, usize)>) {
+        let case = case(batch, lent);
+        let first = case.first_no();
+        let fields = if first == 0 { batch.fields } else { 0 };
+        (first, batch.columns[..fields].iter().map(|column| (column.name, column.size)).collect())
+    }
+
+    fn is_dense(&self, batch: &Batch, lent: &Lent) -> (u8, bool) {
+        let first = case(batch, lent).first_no();
+        (first, first == 0 && batch.dense)
+    }
+
+    fn is_nullable(&self, batch: &Batch, lent: &Lent) -> (u8, bool) {
+        let case = case(batch, lent);
+        let first = case.first_no();
+        (first, first == 0 && case.masked().0 > 0)
+    }
+
+    fn slice(&self, batch: &Batch, lent: &Lent, start: usize, count: usize) -> (u8, Batch) {
+        let case = case(batch, lent);
+        match case.first_no() {
+            0 => case.sliced(start, count).map_or((9, Batch::empty()), |batch| (0, batch)),
+            first => (first, Batch::empty()),
+        }
+    }
+
+    fn null_mask(&self, batch: &Batch, lent: &Lent, cost: u8, out: &mut [u64]) -> (u8, Mask) {
+        let case = case(batch, lent);
+        let number = match case.try_new() {
+            0 if ![10, 3, 2, 0].contains(&cost) => 12,
+            number => number,
+        };
+        let route = if number == 0 { case.route(usize::from(cost)) } else { 0 };
+        self.mask(&case, number, route, matches!(route, 1 | 2), out)
+    }
+
+    fn strategy(&self, batch: &Batch, lent: &Lent, strategy: Strategy, out: &mut [u64]) -> (u8, Mask) {
+        let case = case(batch, lent);
+        let number = match case.try_new() {
+            0 if !case.strategy_applies(strategy) => 14,
+            number => number,
+        };
+        let (number, mask) = self.mask(&case, number, 3, false, out);
+        (number, Mask { route: 0, ..mask })
+    }
+
+    fn with_capacity(&self, dense: bool, capacity: usize, limit: usize, lent: &Lent) -> (u8, State) {
+        let state = State { dense, capacity, limit, ..State::default() };
+        match state.refusal(lent) {
+            0 => (0, state),
+            number => (number, State::default()),
+        }
+    }
+
+    fn append(&self, state: &State, lent: &mut Lent, name: &[u8], kind: Kind, word: Option<u64>) -> (u8, State) {
+        let number = state.refusal(lent);
+        if number != 0 {
+            return (number, state.clone());
+        }
+        let mut book = state.book(lent);
+        let number = book.append(true, name, kind, word);
+        if number == 0 {
+            book.write_last(lent);
+        }
+        (number, book.state())
+    }
+
+    fn len(&self, state: &State) -> (usize, State) {
+        (state.len, state.clone())
+    }
+
+    fn finish_cloned(&self, state: &State, lent: &Lent) -> (u8, Batch, State) {
+        match state.refusal(lent) {
+            0 => (0, state.book(lent).description(), state.clone()),
+            number => (number, Batch::empty(), state.clone()),
+        }
+    }
+
+    fn finish(&self, state: &State, lent: &Lent) -> (u8, Batch, State) {
+        let (number, batch, state) = self.finish_cloned(state, lent);
+        let emptied = State { dense: false, len: 0, columns: vec![], ..state.clone() };
+        (number, batch, if number == 0 { emptied } else { state })
     }
 }

@@ -123,16 +123,46 @@ impl Word for f64 {
 macro_rules! with_type {
     ($kind:expr, $t:ident => $body:expr) => {
         match $kind {
-            Kind::Int8 => { type $t = Int8Type; $body }
-            Kind::Int16 => { type $t = Int16Type; $body }
-            Kind::Int32 => { type $t = Int32Type; $body }
-            Kind::Int64 => { type $t = Int64Type; $body }
-            Kind::UInt8 => { type $t = UInt8Type; $body }
-            Kind::UInt16 => { type $t = UInt16Type; $body }
-            Kind::UInt32 => { type $t = UInt32Type; $body }
-            Kind::UInt64 => { type $t = UInt64Type; $body }
-            Kind::Float32 => { type $t = Float32Type; $body }
-            Kind::Float64 => { type $t = Float64Type; $body }
+            Kind::Int8 => {
+                type $t = Int8Type;
+                $body
+            }
+            Kind::Int16 => {
+                type $t = Int16Type;
+                $body
+            }
+            Kind::Int32 => {
+                type $t = Int32Type;
+                $body
+            }
+            Kind::Int64 => {
+                type $t = Int64Type;
+                $body
+            }
+            Kind::UInt8 => {
+                type $t = UInt8Type;
+                $body
+            }
+            Kind::UInt16 => {
+                type $t = UInt16Type;
+                $body
+            }
+            Kind::UInt32 => {
+                type $t = UInt32Type;
+                $body
+            }
+            Kind::UInt64 => {
+                type $t = UInt64Type;
+                $body
+            }
+            Kind::Float32 => {
+                type $t = Float32Type;
+                $body
+            }
+            Kind::Float64 => {
+                type $t = Float64Type;
+                $body
+            }
         }
     };
 }
@@ -200,9 +230,9 @@ fn parts_of(batch: &Batch, lent: &Lent) -> Parts {
     };
     let children = (0..batch.children).map(|k| child(batch.column(k))).collect();
     let type_ids = ScalarBuffer::new(Buffer::from_slice_ref(&lent.type_ids), batch.start, batch.count);
-    let offsets = batch.dense.then(|| {
-        ScalarBuffer::new(Buffer::from_slice_ref(&lent.offsets), batch.offsets_start, batch.offsets_count)
-    });
+    let offsets = batch
+        .dense
+        .then(|| ScalarBuffer::new(Buffer::from_slice_ref(&lent.offsets), batch.offsets_start, batch.offsets_count));
     (fields, type_ids, offsets, children)
 }
 
@@ -217,7 +247,7 @@ fn built(batch: &Batch, lent: &Lent, make: impl FnOnce(Parts) -> Result<UnionArr
 // --------------------------------------------------------------------------------------------------------- answers
 
 /// What `value` shows of a slot; `bits` is what is stored, under a null too.
-#[derive(Clone, Debug, PartialEq, Eq)]
+#[derive(Clone, Debug, Default, PartialEq, Eq)]
 pub struct Value {
     pub id: i8,
     pub name: Vec<u8>,
@@ -386,15 +416,7 @@ impl Union {
             let offsets = self.0.offsets().map(|offsets| offsets.to_vec());
             let mut case = crate::plain::without_columns(self.0.type_ids(), offsets.as_deref());
             for (id, field) in self.0.fields().iter() {
-                let child = child_data(self.0.child(id));
-                let name = name_of(field.name());
-                let from = case.lent.values.len();
-                let slots: Vec<_> = match &child.mask {
-                    Some(mask) => child.words.iter().zip(mask).map(|(word, set)| set.then_some(*word)).collect(),
-                    None => child.words.iter().map(|word| Some(*word)).collect(),
-                };
-                crate::plain::add_column(&mut case, id, child.kind, &name, &slots, child.mask.is_some());
-                case.lent.values[from..].copy_from_slice(&child.words);
+                case.add_child(id, &name_of(field.name()), &child_data(self.0.child(id)));
             }
             case
         })

@@ -1,8 +1,9 @@
 //! Plain data in the port's terms: a batch is a description by value over lent memory.
 
 /// The kind of a column's values; its number is its place.
-#[derive(Clone, Copy, Debug, PartialEq, Eq)]
+#[derive(Clone, Copy, Debug, Default, PartialEq, Eq)]
 pub enum Kind {
+    #[default]
     Int8,
     Int16,
     Int32,
@@ -60,17 +61,8 @@ pub struct Column {
 }
 
 impl Column {
-    pub const EMPTY: Column = Column {
-        id: 0,
-        kind: Kind::Int8,
-        name: 0,
-        size: 0,
-        values: 0,
-        slots: 0,
-        masked: false,
-        mask: 0,
-        bit: 0,
-    };
+    pub const EMPTY: Column =
+        Column { id: 0, kind: Kind::Int8, name: 0, size: 0, values: 0, slots: 0, masked: false, mask: 0, bit: 0 };
 
     pub fn first_bit(&self) -> u128 {
         64 * self.mask as u128 + u128::from(self.bit)
@@ -90,10 +82,34 @@ pub struct Batch {
 }
 
 impl Batch {
+    /// What a refused call answers for a batch.
+    pub fn empty() -> Self {
+        without_columns(&[], None).batch
+    }
+
     /// Entry k of the list; past what was filled in, an empty one.
     pub fn column(&self, k: usize) -> &Column {
         self.columns.get(k).unwrap_or(&Column::EMPTY)
     }
+}
+
+/// A builder's state: its columns in id order, without their names, which are in lent memory.
+#[derive(Clone, Debug, Default, PartialEq, Eq)]
+pub struct State {
+    pub dense: bool,
+    pub capacity: usize,
+    pub limit: usize,
+    pub len: usize,
+    pub columns: Vec<Growing>,
+}
+
+/// A column that is being built; its name has `size` bytes.
+#[derive(Clone, Debug, PartialEq, Eq)]
+pub struct Growing {
+    pub kind: Kind,
+    pub size: usize,
+    pub slots: usize,
+    pub masked: bool,
 }
 
 #[derive(Clone, Debug, Default, PartialEq, Eq)]
@@ -108,6 +124,11 @@ pub struct Lent {
 impl Lent {
     pub fn mask_bit(&self, bit: usize) -> bool {
         self.masks[bit / 64] >> (bit % 64) & 1 != 0
+    }
+
+    pub fn set_mask_bit(&mut self, bit: usize, set: bool) {
+        let word = &mut self.masks[bit / 64];
+        *word = *word & !(1 << (bit % 64)) | u64::from(set) << (bit % 64);
     }
 }
 

@@ -573,11 +573,7 @@ impl BooleanBufferBuilder {
         &mut self.bytes
     }
     pub fn set_bit(&mut self, place: usize, bit: bool) {
-        if bit {
-            bit_util::set_bit(&mut self.bytes, place)
-        } else {
-            bit_util::unset_bit(&mut self.bytes, place)
-        }
+        if bit { bit_util::set_bit(&mut self.bytes, place) } else { bit_util::unset_bit(&mut self.bytes, place) }
     }
     pub fn finish(&mut self) -> BooleanBuffer {
         let done = std::mem::take(self);

@@ -100,10 +100,7 @@ impl DataType {
     /// Whether the values are of one fixed width; asked by dictionary_array.rs.
     pub fn is_primitive(&self) -> bool {
         use DataType::*;
-        matches!(
-            self,
-            Int8 | Int16 | Int32 | Int64 | UInt8 | UInt16 | UInt32 | UInt64 | Float16 | Float32 | Float64
-        )
+        matches!(self, Int8 | Int16 | Int32 | Int64 | UInt8 | UInt16 | UInt32 | UInt64 | Float16 | Float32 | Float64)
     }
 }
 

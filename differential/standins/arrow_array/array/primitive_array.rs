@@ -59,11 +59,7 @@ impl<T: ArrowPrimitiveType> PrimitiveArray<T> {
 
 impl<T: ArrowPrimitiveType> Clone for PrimitiveArray<T> {
     fn clone(&self) -> Self {
-        PrimitiveArray {
-            data_type: self.data_type.clone(),
-            values: self.values.clone(),
-            nulls: self.nulls.clone(),
-        }
+        PrimitiveArray { data_type: self.data_type.clone(), values: self.values.clone(), nulls: self.nulls.clone() }
     }
 }
 
