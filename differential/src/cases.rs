@@ -254,18 +254,39 @@ fn random_slots(random: &mut Random, case: &mut Case, count: usize) {
 // --------------------------------------------------------------------------------------------------------- damage
 
 fn moved(random: &mut Random, number: usize) -> usize {
-    match random.below(6) {
-        0 => number.wrapping_add(1),
-        1 => number.wrapping_sub(1),
-        2 => random.below(130),
-        3 => usize::MAX - random.below(2),
-        4 => random.pick(&[65_536, 65_537, 1 << 32, 1 << 58, 1 << 63]),
+    match random.below(10) {
+        0..=2 => number.wrapping_add(1),
+        3..=5 => number.wrapping_sub(1),
+        6 => random.below(130),
+        7 => usize::MAX - random.below(2),
+        8 => random.pick(&[65_536, 65_537, 1 << 32, 1 << 58, 1 << 63]),
         _ => number.wrapping_add(64),
     }
 }
 
-/// Puts one fault into a batch. It may happen to leave the batch acceptable.
+/// Puts one to four faults into a batch, mostly one.
 pub fn damage(random: &mut Random, case: &mut Case) {
+    for _ in 0..random.pick(&[1, 1, 1, 2, 3, 4]) {
+        fault(random, case);
+    }
+}
+
+/// A batch that only question 4 refuses: one slot too many, in the union or in a dense child.
+pub fn too_long(random: &mut Random) -> Case {
+    let dense = random.one_in(2);
+    let (fields, count) = (1 + random.below(3), if dense && random.one_in(2) { 5 } else { 65_537 });
+    let mut case = accepted_of(random, dense, fields, count);
+    if count == 5 {
+        let column = &mut case.batch.columns[0];
+        column.slots = 65_537;
+        case.lent.values.resize(column.values + 65_537, 0);
+        case.lent.masks.resize(column.mask + 1026, 0);
+    }
+    case
+}
+
+/// Puts one fault into a batch. It may happen to leave the batch acceptable.
+fn fault(random: &mut Random, case: &mut Case) {
     let (batch, lent) = (&mut case.batch, &mut case.lent);
     let fields = batch.columns.len();
     let k = if fields > 0 { random.below(fields) } else { 0 };
@@ -376,11 +397,13 @@ pub struct Script {
 
 /// A list of calls with refusals of every number from 16 to 20, and several batches.
 pub fn script(random: &mut Random) -> Script {
-    let capacity = match random.below(12) {
-        0 => random.pick(&[63, 64, 65, 127, 128, 129, 200, 1024]),
+    let capacity = match random.below(48) {
+        0 => 65_536,
+        1..=4 => random.pick(&[63, 64, 65, 127, 128, 129, 200, 1024]),
         _ => 1 + random.below(40),
     };
     let limit = match random.below(12) {
+        _ if capacity > 1024 => 1 + random.below(3),
         0 => 128,
         1 => random.pick(&[64, 127, 20]),
         _ => 1 + random.below(8),

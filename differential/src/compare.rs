@@ -146,6 +146,14 @@ impl<P: Port> Comparison<'_, P> {
         let (number, places) = port.type_names(batch, lent);
         let names = places.iter().map(|(start, size)| lent.names[*start..][..*size].to_vec()).collect();
         tally.same("type_names", (number, names), (0, union.type_names().answer().unwrap()), case);
+        for (start, length) in
+            [(0, count), (count, 0), (count, 1), (0, count + 1), (usize::MAX, 2), (count / 2, count / 3)]
+        {
+            let sliced = port.slice(batch, lent, start, length);
+            let expected = case.sliced(start, length).map_or((9, Batch::empty()), |batch| (0, batch));
+            tally.same("slice", sliced.0 == 0, union.slice(start, length).is_answer(), case);
+            tally.same("slice: description", sliced, expected, case);
+        }
         for id in [-128, -1, 0, 1, 127, self.random.next() as i8] {
             self.child(case, union, id);
         }
@@ -181,7 +189,7 @@ impl<P: Port> Comparison<'_, P> {
         let (number, column) = self.port.child(&case.batch, &case.lent, id);
         match union.child(id) {
             Outcome::Answer(child) => {
-                let listed = case.batch.columns.iter().any(|listed| *listed == column);
+                let listed = (0..case.batch.fields).any(|k| *case.batch.column(k) == column);
                 self.tally.same("child", (number, column.id, listed), (0, id, true), case);
                 self.tally.same("child: contents", case.contents(&column), child, case);
             }
@@ -197,7 +205,10 @@ impl<P: Port> Comparison<'_, P> {
     fn masks(&mut self, case: &Case, union: &Union, whole: u8) {
         for cost in GATHER_COSTS {
             let expected = if whole == 0 { union.logical_nulls(cost).answer() } else { None };
-            self.tally.met(&format!("null masks by route {}", expected.as_ref().map_or(255, |nulls| nulls.route)));
+            match &expected {
+                Some(nulls) => self.tally.met(&format!("null masks by route {}", nulls.route)),
+                None => self.tally.met("null masks refused"),
+            }
             self.mask(case, "null mask", whole, expected, &|port, out| {
                 port.null_mask(&case.batch, &case.lent, cost, out)
             });

@@ -36,10 +36,12 @@ fn compare<P: Port>(port: &P, of: &str, seed: u64, cases: u64) -> bool {
             let mut case = cases::accepted(&mut comparison.random);
             comparison.batch(&case);
             comparison.chain(&case);
-            for _ in 0..1 + comparison.random.below(4) {
-                cases::damage(&mut comparison.random, &mut case);
-            }
+            cases::damage(&mut comparison.random, &mut case);
             comparison.batch(&case);
+            if comparison.random.one_in(50) {
+                case = cases::too_long(&mut comparison.random);
+                comparison.batch(&case);
+            }
         }
     });
     let lists = part(port, seed, &format!("{of}: builder lists"), |comparison| {

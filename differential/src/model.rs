@@ -184,6 +184,7 @@ impl Case {
             batch.offsets_start += start;
             batch.offsets_count = count;
         } else {
+            batch.columns.resize(batch.columns.len().max(batch.fields), Column::EMPTY);
             for column in &mut batch.columns[..self.batch.fields] {
                 column.values += start;
                 column.slots = count;
@@ -450,7 +451,7 @@ impl Port for Model {
         let case = case(batch, lent);
         let first = case.first_no();
         let fields = if first == 0 { batch.fields } else { 0 };
-        (first, batch.columns[..fields].iter().map(|column| (column.name, column.size)).collect())
+        (first, (0..fields).map(|k| batch.column(k)).map(|column| (column.name, column.size)).collect())
     }
 
     fn is_dense(&self, batch: &Batch, lent: &Lent) -> (u8, bool) {

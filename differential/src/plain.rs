@@ -69,7 +69,8 @@ impl Column {
     }
 }
 
-#[derive(Clone, Debug, PartialEq, Eq)]
+/// A description. Entries of the list that are not there are empty ones.
+#[derive(Clone, Debug)]
 pub struct Batch {
     pub dense: bool,
     pub fields: usize,
@@ -87,11 +88,24 @@ impl Batch {
         without_columns(&[], None).batch
     }
 
-    /// Entry k of the list; past what was filled in, an empty one.
     pub fn column(&self, k: usize) -> &Column {
         self.columns.get(k).unwrap_or(&Column::EMPTY)
     }
+
+    fn numbers(&self) -> [usize; 7] {
+        let dense = usize::from(self.dense);
+        [dense, self.fields, self.children, self.start, self.count, self.offsets_start, self.offsets_count]
+    }
 }
+
+impl PartialEq for Batch {
+    fn eq(&self, other: &Self) -> bool {
+        let most = self.columns.len().max(other.columns.len());
+        self.numbers() == other.numbers() && (0..most).all(|k| self.column(k) == other.column(k))
+    }
+}
+
+impl Eq for Batch {}
 
 /// A builder's state: its columns in id order, without their names, which are in lent memory.
 #[derive(Clone, Debug, Default, PartialEq, Eq)]
