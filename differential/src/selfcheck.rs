@@ -76,6 +76,7 @@ pub fn edges(tally: &mut Tally) {
     let nulls = mask(&one_each, 10);
     tally.same("edge: dense, no slots, all null", (nulls.present, nulls.length, nulls.route), (true, 0, 2), &one_each);
     tally.same("edge: sparse, no slots", mask(&sparse(&[], &[&[], &[]]), 10).present, false, &());
+    #[allow(clippy::type_complexity)]
     let routes: [(&[i8], &[&[usize]], u8, u8); 4] = [
         (&[0, 1], &[&[0], &[1]], 2, 4),
         (&[0, 1], &[&[0], &[1], &[0]], 2, 3),
