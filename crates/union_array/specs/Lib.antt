@@ -6,3 +6,8 @@ pub mod Slots
 pub mod Questions
 pub mod Lookup
 pub mod Slices
+pub mod Look
+pub mod Pass
+pub mod Check
+pub mod ChildSlot
+pub mod Movable

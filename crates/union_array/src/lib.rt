@@ -1,4 +1,11 @@
 // The union array: a description by value over lent memory.
+pub mod check;
+pub mod child_value;
+pub mod fields;
+pub mod lookup;
+pub mod presence;
+pub mod questions;
+pub mod slices;
 
 // The kind of a column's values. One word holds one value, in its low bits.
 pub enum Kind {
@@ -109,4 +116,37 @@ pub struct Flag {
 pub struct Slice {
     pub array: UnionArray,
     pub refusal: u8,
+}
+
+// What one pass over the columns tells every call: the first no of 1 to 6, and the column with an id.
+pub struct Looked {
+    pub column: Column,
+    pub refusal: u8,
+    pub found: bool,
+}
+
+// An array but for its columns.
+pub struct Head {
+    pub fields: usize,
+    pub children: usize,
+    pub start: usize,
+    pub count: usize,
+    pub offsets_start: usize,
+    pub offsets_count: usize,
+    pub layout: Layout,
+}
+
+// What a pass tells: the least of 1, 3, 4 and 6 answered no, 7 if there is none, and the column with an id.
+pub struct Passed {
+    pub column: Column,
+    pub fault: u8,
+    pub found: bool,
+}
+
+// A slot's child, its slot in it and its type id.
+pub struct ChildSlot {
+    pub column: Column,
+    pub slot: usize,
+    pub refusal: u8,
+    pub id: i8,
 }

@@ -4,3 +4,6 @@ pub mod Names
 pub mod Builder
 pub mod Append
 pub mod Finish
+pub mod Order
+pub mod Inner
+pub mod Describe

@@ -35,9 +35,11 @@ use Rattle.union_history.specs.Log as Log
 use Rattle.union_history.specs.Log.{Log, Entry, Fed, LogReply, noLogColumn, noEntry, logReplies}
 
 -- ---- 1. The calls
--- "every list of append, append_null, len, finish_cloned (a snapshot, if accepted) and finish", each with the memory that it is lent and its arguments
+-- "every list of append, append_null, len, finish_cloned (a snapshot, if accepted) and finish", each with the memory that it is lent and its arguments;
+-- "The thin append, once there, is an append": append-mut is append_mut, which "takes the builder lent mutably"
 pub data Call : Type 0 where
   append : Buffers → List ℕ → Kind → ℕ → Call
+  append-mut : Buffers → List ℕ → Kind → ℕ → Call
   append-null : Buffers → List ℕ → Kind → Call
   len : Call
   finish-cloned : Buffers → Call
@@ -46,6 +48,7 @@ pub data Call : Type 0 where
 -- "the book is fed which one it is, its arguments but the builder, and the amounts lent"
 abbrev pub fed : Call → Fed
 fed (append m name kind x) = Log.append (amountsOf m) name kind x
+fed (append-mut m name kind x) = Log.append (amountsOf m) name kind x
 fed (append-null m name kind) = Log.append-null (amountsOf m) name kind
 fed len = Log.len
 fed (finish-cloned m) = Log.finish-cloned (amountsOf m)
@@ -82,6 +85,7 @@ afterFinish s m r = record {
 -- one call, by the definition that its function's contract cites
 unfoldable pub step : State → Call → Stepped
 step s (append m name kind x) = afterAppend s (appendOf (s .builder) m name kind x)
+step s (append-mut m name kind x) = afterAppend s (appendOf (s .builder) m name kind x)
 step s (append-null m name kind) = afterAppend s (appendNullOf (s .builder) m name kind)
 step s len = record {
   reply = record { refusal = 0; len = (lenOf (s .builder)) .len; array = none };
@@ -120,6 +124,7 @@ Lends s refusal m = (refusal ≡ 16) ⊎ Agree (s .builder .capacity) (s .builde
 
 abbrev pub LentRight : State → Call → Type 0
 LentRight s (append m name kind x) = Lends s ((reply s (append m name kind x)) .refusal) m
+LentRight s (append-mut m name kind x) = Lends s ((reply s (append-mut m name kind x)) .refusal) m
 LentRight s (append-null m name kind) = Lends s ((reply s (append-null m name kind)) .refusal) m
 LentRight s len = Unit {0}
 LentRight s (finish-cloned m) = Lends s ((reply s (finish-cloned m)) .refusal) m
@@ -128,6 +133,7 @@ LentRight s (finish m) = Lends s ((reply s (finish m)) .refusal) m
 -- "an accepted finish ends the list"
 abbrev pub EndsRight : State → Call → List Call → Type 0
 EndsRight s (append m name kind x) cs = Unit {0}
+EndsRight s (append-mut m name kind x) cs = Unit {0}
 EndsRight s (append-null m name kind) cs = Unit {0}
 EndsRight s len cs = Unit {0}
 EndsRight s (finish-cloned m) cs = Unit {0}

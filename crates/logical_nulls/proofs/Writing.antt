@@ -1,0 +1,68 @@
+-- The words of a mask, written one at a time; and the ways out of the step of a route and of the answer. Assumes nothing.
+use mathlib.Core.Path.{_≡_, refl, sym, ap, ap₂, _∙_}
+use mathlib.Core.Bool.{Bool, true, false, cond, not, _&&_}
+use mathlib.Core.List.{List}
+use Prim.Native.Nat.{ℕ, zero, suc, _+_, _*_, _≤_, _<_}
+use native.Mathlib.Omega.{arith}
+use borrow.Author.Tests.{eq-eqb, ne-eqb, le-leb, lt-leb}
+use lib.Dec.{eqb, leb}
+use lib.IntN.{ℤ}
+use lib.ListN.{length}
+use Rattle.bitmap.specs.Lists.{retable}
+use Rattle.bitmap.specs.Bits.{pack, wordsFor, written}
+use Rattle.bitmap.proofs.Tables.{retable-ext}
+use Rattle.logical_nulls.specs.Mask.{LogicalNulls, presentOn, answerOn}
+use Rattle.logical_nulls.specs.Fields.{Field}
+use Rattle.logical_nulls.specs.Steps.{wordOf, wordsOf, skipOneAt, skipWithoutAt, skipFullyAt, stepAt}
+use Rattle.logical_nulls.proofs.Marking.{word-ext, word-none}
+
+module _ (len : ℕ) where
+  -- a word of the mask has a slot
+  pub word-starts : (k n : ℕ) → n ≡ wordsFor len → k < n → 64 * k < len
+  unfolding wordsFor
+  word-starts k n e h = omega arith
+
+  pub words-done : (f : ℕ → Bool) (out : List ℕ) (k n : ℕ) → n ≡ wordsFor len → k ≡ n → retable k (wordOf len f) out ≡ wordsOf len f out
+  unfolding wordsOf
+  words-done f out k n e q = ap (λ (j : ℕ). retable j (wordOf len f) out) (q ∙ e)
+
+  pub words-ext : (f g : ℕ → Bool) (out : List ℕ) → ((i : ℕ) → i < len → f i ≡ g i) → wordsOf len f out ≡ wordsOf len g out
+  unfolding wordsOf
+  words-ext f g out e = retable-ext (wordsFor len) (wordOf len f) (wordOf len g) out (λ k h. word-ext len k f g e)
+
+  pub words-written : (isNull : ℕ → Bool) (out : List ℕ) → wordsOf len (λ i. not (isNull i)) out ≡ written len isNull out
+  unfolding wordsOf written wordOf
+  words-written isNull out = refl
+
+  pub null-word : (k : ℕ) → 0 ≡ wordOf len (λ i. false) k
+  null-word k = sym (word-none len k (λ i. false) (λ i h. refl))
+
+-- ---- the step of a route
+
+module _ (route : ℕ) (fs : List Field) (masks : List ℕ) (ids : List ℤ) (start len k : ℕ) where
+  pub step-5 : route ≡ 5 → wordOf len (skipWithoutAt fs masks ids start) k ≡ wordOf len (stepAt route fs masks ids start) k
+  unfolding stepAt
+  step-5 e = rw (eq-eqb route 5 e)
+
+  pub step-6 : (route ≡ 5 → ⊥) → route ≡ 6 → wordOf len (skipFullyAt fs masks ids start) k ≡ wordOf len (stepAt route fs masks ids start) k
+  unfolding stepAt
+  step-6 h e = rw (ne-eqb route 5 h, eq-eqb route 6 e)
+
+  pub step-4 : (route ≡ 5 → ⊥) → (route ≡ 6 → ⊥) → wordOf len (skipOneAt fs masks ids start) k ≡ wordOf len (stepAt route fs masks ids start) k
+  unfolding stepAt
+  step-4 h e = rw (ne-eqb route 5 h, ne-eqb route 6 e)
+
+-- ---- the answer
+
+module _ (route nulls : ℕ) where
+  pub present-high : 3 ≤ route → not (eqb nulls 0) ≡ presentOn route nulls
+  present-high h = rw (le-leb 3 route h)
+
+  pub present-low : route < 3 → not (eqb route 0) ≡ presentOn route nulls
+  present-low h = rw (lt-leb 3 route h)
+
+  pub answer-yes : (b : Bool) → b ≡ presentOn route nulls → b ≡ true → record { nulls = nulls; refusal = 0; route = route; present = b } ≡ answerOn route nulls
+  answer-yes b e t = rw (sym e, t)
+
+  pub answer-no : (b : Bool) → b ≡ presentOn route nulls → b ≡ false → record { nulls = 0; refusal = 0; route = route; present = b } ≡ answerOn route nulls
+  answer-no b e t = rw (sym e, t)

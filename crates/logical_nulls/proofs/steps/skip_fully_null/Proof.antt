@@ -1,0 +1,23 @@
+use mathlib.Core.Path.{_≡_, ap, _∙_}
+use Rattle.logical_nulls.specs.Fields.{inList}
+use Rattle.logical_nulls.specs.Steps.{Marks}
+use Rattle.logical_nulls.proofs.Marking.{fully-word}
+use borrow.Author.Needs.{needs}
+use Rattle.logical_nulls.proofs.steps.skip_fully_null.Statement.{statement}
+use Rattle.logical_nulls.proofs.steps.skip_fully_null.Tie as tie
+use Rattle.logical_nulls.proofs.steps.skip_fully_null.Reads as reads
+use Rattle.logical_nulls.proofs.steps.skip_fully_null.Lts as lts
+use Rattle.logical_nulls.proofs.steps.mark.Reads as mark-reads
+
+-- src/steps.rt:104:9
+mark-requires : tie.Need-mark-requires
+mark-requires c κs = search needs
+
+-- src/steps.rt:93:1
+returns : tie.Need-returns
+returns c =
+    let a = c .before .before .args in
+    ap (λ (r : Marks). r .present) (c .mark .ensures) ∙ fully-word (inList (a .fs)) (a .masks .now) (a .ids .now) (a .start) (a .len) (a .k)
+
+pub skip-fully-null-spec : {M : Type 1} → statement M
+skip-fully-null-spec = tie.close (tie.spec mark-requires returns)

@@ -1,0 +1,90 @@
+-- The loop has written the words before k. Assumes nothing.
+use borrow.Author.Needs.{needs}
+use mathlib.Core.Path.{_≡_, sym, ap, ap₂, _∙_}
+use mathlib.Core.Bool.{Bool}
+use mathlib.Core.List.{List}
+use Prim.Native.Nat.{ℕ, _+_, _-_, _*_, _≤_, _<_}
+use native.Mathlib.Omega.{arith}
+use lib.ListN.{length, set}
+use Rattle.bitmap.specs.Lists.{retable}
+use Rattle.bitmap.proofs.Tables.{retable-none, retable-store, retable-length}
+use Rattle.logical_nulls.specs.Fields.{inList}
+use Rattle.logical_nulls.specs.Steps.{wordOf, stepAt}
+use Rattle.logical_nulls.proofs.Writing.{word-starts, words-done}
+use Rattle.logical_nulls.proofs.words.write_steps.Statement.{statement}
+use Rattle.logical_nulls.proofs.words.write_steps.Tie as tie
+
+abbrev Inv-loop : tie.InvT-loop
+Inv-loop route fs masks ids start len out₀ n k₀ out k = (k ≤ n) × (out ≡ retable k (wordOf len (stepAt route (inList fs) masks ids start)) out₀)
+
+abbrev μ-loop : tie.MeasureT-loop
+μ-loop route fs masks ids start len out₀ n k₀ out k = n - k
+
+words-for-requires : tie.Need-words-for-requires Inv-loop μ-loop
+words-for-requires c κs = c .before .before .pre .0 .0
+
+loop-holds : tie.Need-loop-holds Inv-loop μ-loop
+loop-holds c = (omega arith, sym (retable-none _ _))
+
+step-requires : tie.Need-step-requires Inv-loop μ-loop
+step-requires c κs =
+    let st = c .before .before .before .before .before in
+    let n = c .before .before .words-for in
+    (st .pre .1 (c .before .loop .k) (word-starts (st .args .len) (c .before .loop .k) (n .result) (n .ensures) (c .loop-test .taken)), st .pre .0 .2)
+
+mul-out : tie.Need-mul-out Inv-loop μ-loop
+mul-out c = omega (arith, c .before .before .before .before .before .before .pre .0 .1, c .before .before .before .words-for .ensures)
+
+slice-write-out : tie.Need-slice-write-out Inv-loop μ-loop
+slice-write-out c =
+    let a = c .before .before .before .before .before .before .args in
+    let l = c .before .before .loop in
+    let f : ℕ → Bool = stepAt (a .route) (inList (a .fs)) (a .masks .now) (a .ids .now) (a .start) in
+    omega (arith, c .before .before .before .before .before .before .pre .0 .1, c .before .before .before .words-for .ensures, ap length (l .inv .1), retable-length (l .k) (wordOf (a .len) f) (a .out .now) (omega (arith, c .before .before .before .before .before .before .pre .0 .1, c .before .before .before .words-for .ensures)))
+
+add-k : tie.Need-add-k Inv-loop μ-loop
+add-k c = omega (arith, c .before .before .before .before .before .before .pre .0 .1, c .before .before .before .words-for .ensures)
+
+loop-less : tie.Need-loop-less Inv-loop μ-loop
+loop-less c = search needs
+
+loop-again : tie.Need-loop-again Inv-loop μ-loop
+loop-again c =
+    let a = c .before .before .before .before .before .before .args in
+    let l = c .before .before .loop in
+    let f : ℕ → Bool = stepAt (a .route) (inList (a .fs)) (a .masks .now) (a .ids .now) (a .start) in (
+      omega arith,
+      ap₂ (λ (o : List ℕ) (x : ℕ). set o (l .k) x) (l .inv .1) (c .step .ensures)
+          ∙ retable-store (wordOf (a .len) f) (a .out .now) (l .k) (omega (arith, c .before .before .before .before .before .before .pre .0 .1, c .before .before .before .words-for .ensures)),
+    )
+
+same-length : tie.Need-same-length Inv-loop μ-loop
+same-length c =
+    let a = c .before .before .before .before .before .args in
+    let l = c .before .loop in
+    let f : ℕ → Bool = stepAt (a .route) (inList (a .fs)) (a .masks .now) (a .ids .now) (a .start) in
+    ap length (l .inv .1) ∙ retable-length (l .k) (wordOf (a .len) f) (a .out .now) (omega (arith, c .before .before .before .before .before .pre .0 .1, c .before .before .words-for .ensures))
+
+returns : tie.Need-returns Inv-loop μ-loop
+returns c =
+    let a = c .before .before .before .before .before .args in
+    let l = c .before .loop in
+    let f : ℕ → Bool = stepAt (a .route) (inList (a .fs)) (a .masks .now) (a .ids .now) (a .start) in
+    l .inv .1 ∙ words-done (a .len) f (a .out .now) (l .k) (c .before .before .words-for .result) (c .before .before .words-for .ensures) (omega arith)
+
+pub write-steps-spec : {M : Type 1} → statement M
+write-steps-spec =
+    tie.close
+    (tie.spec
+    Inv-loop
+    μ-loop
+    words-for-requires
+    loop-holds
+    step-requires
+    mul-out
+    slice-write-out
+    add-k
+    loop-less
+    loop-again
+    same-length
+    returns)

@@ -1,0 +1,146 @@
+-- A slot's child and its slot in it, by what was looked up and read. Assumes nothing.
+use mathlib.Core.Path.{_≡_, refl, sym, ap, _∙_}
+use mathlib.Core.Bool.{Bool, true, false, false≢true}
+use mathlib.Core.Option.{Option, none, some}
+use Prim.Native.Nat.{ℕ, zero, suc, _≤_, _<_}
+use native.Mathlib.Omega.{arith}
+use borrow.Author.Tests.{lt-ltb, le-ltb}
+use lib.Dec.{T, ltb}
+use lib.IntN.{ℤ, pos, negsuc, natAbs}
+use lib.Signed.{ltZ, nonNeg}
+use Rattle.union_array.specs.Types.{Layout, Sparse, Dense, Column, UnionArray, noColumn, byLayout}
+use Rattle.union_array.specs.Buffers.{Buffers, amountsOf}
+use Rattle.union_array.specs.Refusal.{no, _then_, ifYes}
+use Rattle.union_array.specs.Slots.{inUse, isSome, typeIdAt, offsetAt, childAt, slotAt}
+use Rattle.union_array.specs.Questions.{within, withinChild, columnIn, asked, slotChecked}
+use Rattle.union_array.specs.Lookup.{orNone, noValue, valueIn, columnValue, valueOf, typeIdOf, valueOffsetOf}
+use Rattle.union_array.specs.Look.{Looked, lookOf}
+use Rattle.union_array.specs.ChildSlot.{ChildSlot, childSlotOf, noChildSlot, settledNo, settled}
+use Rattle.union_array.proofs.Tests.{then-left, refused-is}
+use Rattle.union_array.proofs.Accepted.{Accepted, SlotAccepted, child-is, slot-accepted, slot-in}
+use Rattle.union_array.proofs.Columns.{all-found}
+
+-- ---- an offset that is within
+
+pub within-sign : (z : ℤ) (n : ℕ) → within z n ≡ true → T (nonNeg z)
+within-sign (pos k) n e = tt
+within-sign (negsuc k) n e = absurd (false≢true e)
+
+pub not-below : (z : ℤ) → T (nonNeg z) → ltZ z (pos 0) ≡ false
+not-below (pos k) h = le-ltb k 0 (omega arith)
+not-below (negsuc k) h = absurd h
+
+-- ---- each way out
+
+module _ (l : Looked) (layout : Layout) (n i : ℕ) (id offset : ℤ) where
+  -- the answer by its number
+  abbrev answer : ℕ → ChildSlot
+  answer r = record {
+    column = ifYes r (l .column) noColumn;
+    slot = ifYes r (byLayout layout i (natAbs offset)) 0;
+    refusal = r;
+    id = ifYes r id (pos 0);
+  }
+
+  refused : (r : ℕ) → (r ≡ 0 → ⊥) → settledNo l layout n i offset ≡ r → noChildSlot r ≡ settled l layout n i id offset
+  unfolding settled
+  refused r h e = sym (ap answer e ∙ by r h)
+    where
+      by : (k : ℕ) → (k ≡ 0 → ⊥) → answer k ≡ noChildSlot k
+      by zero g = absurd (g refl)
+      by (suc k) g = refl
+
+  pub settled-first : (l .refusal ≡ 0 → ⊥) → noChildSlot (l .refusal) ≡ settled l layout n i id offset
+  settled-first h = refused (l .refusal) h (then-left (l .refusal) _ h)
+
+  pub settled-10 : l .refusal ≡ 0 → n ≤ i → noChildSlot 10 ≡ settled l layout n i id offset
+  settled-10 e h = refused 10 (λ z. omega arith) (rw (e, le-ltb i n h))
+
+  pub settled-7 : l .refusal ≡ 0 → i < n → l .found ≡ false → noChildSlot 7 ≡ settled l layout n i id offset
+  settled-7 e h f = refused 7 (λ z. omega arith) (rw (e, lt-ltb i n h, f))
+
+  pub settled-8 : l .refusal ≡ 0 → i < n → l .found ≡ true → layout ≡ Dense → within offset (l .column .slots) ≡ false
+      → noChildSlot 8 ≡ settled l layout n i id offset
+  settled-8 e h f d w = refused 8 (λ z. omega arith) (rw (e, lt-ltb i n h, f, d, w))
+
+  pub settled-sparse : l .refusal ≡ 0 → i < n → l .found ≡ true → layout ≡ Sparse
+      → _≡_ {A = ChildSlot} (record { column = l .column; slot = i; refusal = 0; id = id }) (settled l layout n i id offset)
+  unfolding settled
+  settled-sparse e h f d = rw (e, lt-ltb i n h, f, d)
+
+  pub settled-dense : l .refusal ≡ 0 → i < n → l .found ≡ true → layout ≡ Dense → within offset (l .column .slots) ≡ true
+      → _≡_ {A = ChildSlot} (record { column = l .column; slot = natAbs offset; refusal = 0; id = id }) (settled l layout n i id offset)
+  unfolding settled
+  settled-dense e h f d w = rw (e, lt-ltb i n h, f, d, w)
+
+-- ---- the array's slot
+
+module _ (l : Layout) (i : ℕ) (id z : ℤ) where
+  abbrev byNumber : ℕ → Column → ChildSlot
+  byNumber r c = record { column = ifYes r c noColumn; slot = ifYes r (byLayout l i (natAbs z)) 0; refusal = r; id = ifYes r id (pos 0) }
+
+  -- q is the first no of 1 to 6, o the slot's child
+  same : (q : ℕ) (o : Option Column) (b : Bool)
+      → byNumber (q then no 10 b then no 7 (ifYes q (isSome o) false) then no 8 (byLayout l true (within z (ifYes q (orNone o) noColumn .slots)))) (ifYes q (orNone o) noColumn)
+      ≡ byNumber (q then no 10 b then no 7 (isSome o) then no 8 (byLayout l true (withinChild z o))) (orNone o)
+  same (suc q) o b = refl
+  same zero none true = refl
+  same zero none false = refl
+  same zero (some c) b = refl
+
+module _ (a : UnionArray) (m : Buffers) (i : ℕ) where
+  pub settled-is : settled (lookOf a (amountsOf m) (typeIdAt a m i)) (a .layout) (a .count) i (typeIdAt a m i) (offsetAt a m i) ≡ childSlotOf a m i
+  unfolding settled lookOf childSlotOf slotChecked
+  settled-is = same (a .layout) i (typeIdAt a m i) (offsetAt a m i) (asked a (amountsOf m)) (childAt a m i) (ltb i (a .count))
+
+  -- from what was read, looked up and settled
+  pub found-is : (id z : ℤ) (l : Looked) (s : ChildSlot) → id ≡ typeIdAt a m i → z ≡ offsetAt a m i → l ≡ lookOf a (amountsOf m) id
+      → s ≡ settled l (a .layout) (a .count) i id z → s ≡ childSlotOf a m i
+  found-is id z l s e f g h =
+      h ∙ ap (λ (x : Looked). settled x (a .layout) (a .count) i id z) g
+      ∙ ap (λ (x : ℤ). settled (lookOf a (amountsOf m) x) (a .layout) (a .count) i x z) e
+      ∙ ap (settled (lookOf a (amountsOf m) (typeIdAt a m i)) (a .layout) (a .count) i (typeIdAt a m i)) f ∙ settled-is
+
+  module _ (s : ChildSlot) (e : s ≡ childSlotOf a m i) where
+    pub refusal-is : s .refusal ≡ slotChecked a m i
+    unfolding childSlotOf
+    refusal-is = rw e
+
+    pub type-id-is : _≡_ (record { refusal = s .refusal; id = s .id }) (typeIdOf a m i)
+    unfolding typeIdOf childSlotOf
+    type-id-is = rw e
+
+    pub value-offset-is : _≡_ (record { offset = s .slot; refusal = s .refusal }) (valueOffsetOf a m i)
+    unfolding valueOffsetOf childSlotOf
+    value-offset-is = rw e
+
+    pub value-refused : (s .refusal ≡ 0 → ⊥) → noValue (s .refusal) ≡ valueOf a m i
+    unfolding valueOf
+    value-refused h = rw refusal-is (sym (refused-is (slotChecked a m i) _ _ (λ z. h (refusal-is ∙ z))))
+
+    module _ (h : s .refusal ≡ 0) where
+      pub checked-is : slotChecked a m i ≡ 0
+      checked-is = sym refusal-is ∙ h
+
+      pub column-is : s .column ≡ orNone (childAt a m i)
+      unfolding childSlotOf
+      column-is = rw (e, checked-is)
+
+      pub slot-is : s .slot ≡ slotAt a m i
+      unfolding childSlotOf
+      slot-is = rw (e, checked-is)
+
+      accepts : Accepted a (amountsOf m) × SlotAccepted a m i
+      accepts = slot-accepted a m i checked-is
+
+      -- its child's parts lie in lent memory, and the slot is one of the child's
+      pub child-in : columnIn (amountsOf m) (s .column) ≡ true
+      child-in =
+          rw column-is (all-found (columnIn (amountsOf m)) (inUse a) (typeIdAt a m i) (orNone (childAt a m i)) (accepts .0 .parts) (child-is a m (accepts .0) i (accepts .1)))
+
+      pub slot-within : s .slot < s .column .slots
+      slot-within = rw (column-is, slot-is) (slot-in a m (accepts .0) i (accepts .1))
+
+      pub value-is : columnValue (s .column) m (s .slot) ≡ valueOf a m i
+      unfolding valueOf
+      value-is = rw (column-is, slot-is, checked-is) (sym (ap (λ (o : Option Column). valueIn o m (slotAt a m i)) (child-is a m (accepts .0) i (accepts .1))))

@@ -1,0 +1,14 @@
+-- Laws that belong to no one function.
+pub mod Tests
+pub mod Signed
+pub mod Columns
+pub mod OnePass
+pub mod Accepted
+pub mod SlotTable
+pub mod Checked
+pub mod Present
+pub mod Values
+pub mod ChildSlots
+pub mod Lookups
+pub mod Sliced
+pub mod SlicedSlots

@@ -1,0 +1,86 @@
+-- What a child's mask says of its slots, one by one, 64 at a time, and counted. Assumes nothing.
+use mathlib.Core.Path.{_≡_, refl, sym, ap, ap₂, _∙_}
+use mathlib.Core.Bool.{true, false, not, _&&_}
+use Prim.Native.Nat.{ℕ, _+_, _-_, _*_, _%_, _^_, _≤_, _<_, min}
+use native.Mathlib.Nat.{add-assoc, le-of-suc-le-suc, lt-of-not-le}
+use native.Mathlib.Decide.{decLt}
+use native.Mathlib.Omega.{arith}
+use borrow.Author.Tests.{lt-ltb, le-ltb}
+use lib.Dec.{ltb}
+use Rattle.bitmap.specs.Bits.{pack, count, bitAt, chunkOf}
+use Rattle.bitmap.specs.Counting.{clearIn}
+use Rattle.bitmap.proofs.Words.{count-le, pack-ext, pack-none, not-pack, low-pack}
+use Rattle.bitmap.proofs.Counts.{word-fits, word-clear}
+use Rattle.union_array.specs.Types.{Column}
+use Rattle.union_array.specs.Buffers.{Buffers, onlyMasks}
+use Rattle.union_array.specs.Slots.{present, presenceChunk, nullsIn}
+
+-- only the mask words matter
+pub present-masks : (c : Column) (m : Buffers) (p : ℕ) → present c m p ≡ present c (onlyMasks (m .masks)) p
+unfolding present
+present-masks c m p = refl
+
+pub nulls-masks : (c : Column) (m : Buffers) → nullsIn c m ≡ nullsIn c (onlyMasks (m .masks))
+unfolding nullsIn present
+nulls-masks c m = refl
+
+pub chunk-masks : (c : Column) (m : Buffers) (len k : ℕ) → presenceChunk c m len k ≡ presenceChunk c (onlyMasks (m .masks)) len k
+unfolding presenceChunk present
+chunk-masks c m len k = refl
+
+module _ (c : Column) (m : Buffers) where
+  pub by-mask : c .masked ≡ true → (p : ℕ) → bitAt (m .masks) (64 * c .mask + (c .bit + p)) ≡ present c m p
+  unfolding present
+  by-mask e p = rw (e, ← add-assoc (64 * c .mask) (c .bit) p)
+
+  pub no-mask : c .masked ≡ false → (p : ℕ) → true ≡ present c m p
+  unfolding present
+  no-mask e p = rw e
+
+  pub chunk-masked : (len k : ℕ) → c .masked ≡ true → chunkOf (m .masks) (64 * c .mask + c .bit) len k ≡ presenceChunk c m len k
+  unfolding chunkOf presenceChunk present
+  chunk-masked len k e =
+      pack-ext 64 _ _ (λ j h. rw (e, add-assoc (64 * c .mask + c .bit) (64 * k) j))
+
+  pub chunk-free : (n len k : ℕ) → c .masked ≡ false → n ≡ min 64 (len - 64 * k) → 0xffff_ffff_ffff_ffff % 2 ^ n ≡ presenceChunk c m len k
+  unfolding presenceChunk
+  chunk-free n len k e en =
+      ap (λ (x : ℕ). x % 2 ^ n) ones-all ∙ low-pack 64 n (λ _. true)
+      ∙ pack-ext 64 _ _ (λ j h. ap₂ _&&_ (span-cut j h (decLt (64 * k + j) len)) (no-mask e (64 * k + j)))
+    where
+      ones-all : 0xffff_ffff_ffff_ffff ≡ pack 64 (λ _. true)
+      ones-all = ap (λ (x : ℕ). (2 ^ 64 - 1) - x) (sym (pack-none 64 (λ _. false) (λ j h. refl))) ∙ not-pack 64 (λ _. false)
+
+      span-cut : (j : ℕ) → j < 64 → Dec (64 * k + j < len) → ltb j n ≡ ltb (64 * k + j) len
+      span-cut j h (yes l) = lt-ltb j n (omega arith) ∙ sym (lt-ltb (64 * k + j) len l)
+      span-cut j h (no l) =
+          let g : len ≤ 64 * k + j = le-of-suc-le-suc (lt-of-not-le l) in
+          le-ltb j n (omega arith) ∙ sym (le-ltb (64 * k + j) len g)
+
+  -- ---- the count
+
+  -- the nulls of the first n slots
+  unfoldable pub nullsBelow : ℕ → ℕ
+  nullsBelow n = count n (λ p. not (present c m p))
+
+  pub below-none : nullsBelow 0 ≡ 0
+  unfolding nullsBelow count
+  below-none = refl
+
+  pub below-le : (n : ℕ) → nullsBelow n ≤ n
+  unfolding nullsBelow
+  below-le n = count-le n (λ p. not (present c m p))
+
+  pub below-all : nullsBelow (c .slots) ≡ nullsIn c m
+  unfolding nullsBelow nullsIn
+  below-all = refl
+
+  pub chunk-fits : (len k x n : ℕ) → x ≡ presenceChunk c m len k → n ≡ min 64 (len - 64 * k) → x < 2 ^ n
+  unfolding presenceChunk
+  chunk-fits len k x n e q = rw (e, q) (word-fits (present c m) len k)
+
+  -- one more turn: the nulls of the chunks before, and the clear bits of chunk k
+  pub chunk-turn : (len k t x n : ℕ) → 64 * k < len → t ≡ nullsBelow (min (64 * k) len) → x ≡ presenceChunk c m len k → n ≡ min 64 (len - 64 * k)
+      → t + clearIn x n ≡ nullsBelow (min (64 * (k + 1)) len)
+  unfolding nullsBelow presenceChunk
+  chunk-turn len k t x n h e q r = rw (e, q, r) (word-clear (present c m) len k h)

@@ -1,0 +1,64 @@
+use mathlib.Core.Path.{_≡_, sym, _∙_}
+use mathlib.Core.Bool.{true, false}
+use Prim.Native.Nat.{_+_, _≤_}
+use native.Mathlib.Omega.{arith}
+use borrow.Author.Tests.{leb-true, not-true, not-false}
+use lib.ListN.{length, length-map}
+use Rattle.union_array.specs.Buffers.{Buffers, buffersOf, amountsOf}
+use Rattle.union_array.proofs.Accepted.{accepted}
+use Rattle.union_array.proofs.Sliced.{slice-refused, slice-is, movable}
+use borrow.Author.Needs.{needs}
+use Rattle.union_array.proofs.UnionArray.slice.Statement.{statement}
+use Rattle.union_array.proofs.UnionArray.slice.Tie as tie
+
+abbrev lent : tie.Start → Buffers
+lent s = let a = s .args in buffersOf (a .type-ids .now) (a .offsets .now) (a .values .now) (a .masks .now) (a .names .now)
+
+ask-requires : tie.Need-ask-requires
+ask-requires c κs = search needs
+
+no-slice-requires : tie.Need-no-slice-requires
+no-slice-requires c κs = search needs
+
+returns : tie.Need-returns
+returns c = let s = c .before .before .before .before .before .before in c .no-slice .ensures ∙ slice-refused (s .args .self) (lent s) (s .args .o) (s .args .n) (c .before .before .ask .result) (c .before .before .ask .ensures) (c .before .if1 .taken)
+
+part-in-requires : tie.Need-part-in-requires
+part-in-requires c κs = search needs
+
+no-slice-requires-2 : tie.Need-no-slice-requires-2
+no-slice-requires-2 c κs = search needs
+
+returns-2 : tie.Need-returns-2
+returns-2 c =
+    let s = c .before .before .before .before .before .before .before .before in
+    c .no-slice2 .ensures
+    ∙ slice-is (s .args .self) (lent s) (s .args .o) (s .args .n) (c .before .before .before .before .ask .result) false (c .before .before .before .before .ask .ensures) (c .before .before .before .if1 .left) (sym (not-true _ (c .before .if2 .taken)) ∙ c .before .before .part-in .ensures)
+
+cut-requires : tie.Need-cut-requires
+cut-requires c κs =
+    let s = c .before .before .before .before .before .before .before in
+    let a = s .args .self in
+    let l : s .args .o + s .args .n ≤ a .count = leb-true _ _ (sym (c .before .part-in .ensures) ∙ not-false _ (c .if2 .left)) in
+    let y = accepted a (amountsOf (lent s)) (sym (c .before .before .before .ask .ensures) ∙ c .before .before .if1 .left) in
+    let w = y .count in
+    let full : length (a .columns) ≡ 128 = sym (length-map (a .columns) _) ∙ s .good .0 .1 .1 .0 .1 .0 .1 in
+    (movable a (amountsOf (lent s)) y full (omega (arith, s .good)) (omega (arith, s .good)) (omega (arith, s .good)) (omega (arith, s .good)) (s .args .o) (omega arith), omega arith)
+
+returns-3 : tie.Need-returns-3
+returns-3 c =
+    let s = c .before .before .before .before .before .before .before .before in
+    rw (c .cut .ensures) (slice-is (s .args .self) (lent s) (s .args .o) (s .args .n) (c .before .before .before .before .ask .result) true (c .before .before .before .before .ask .ensures) (c .before .before .before .if1 .left) (sym (not-false _ (c .before .if2 .left)) ∙ c .before .before .part-in .ensures))
+
+pub slice-spec : {M : Type 1} → statement M
+slice-spec =
+    tie.close
+    (tie.spec
+    ask-requires
+    no-slice-requires
+    returns
+    part-in-requires
+    no-slice-requires-2
+    returns-2
+    cut-requires
+    returns-3)

@@ -1,0 +1,45 @@
+use mathlib.Core.Path.{_≡_, _∙_}
+use mir.Syntax.{w8, w32}
+use mir.Val.{toZ, ofZ}
+use mir.Facts.{toZ-ofZ}
+use Rattle.union_array.specs.Buffers.{Buffers, buffersOf}
+use Rattle.union_array.specs.ChildSlot.{childSlotOf}
+use Rattle.union_array.proofs.ChildSlots.{found-is, type-id-is}
+use borrow.Author.Needs.{needs}
+use Rattle.union_array.proofs.UnionArray.type_id.Statement.{statement}
+use Rattle.union_array.proofs.UnionArray.type_id.Tie as tie
+
+abbrev lent : tie.Start → Buffers
+lent s = let a = s .args in buffersOf (a .type-ids .now) (a .offsets .now) (a .values .now) (a .masks .now) (a .names .now)
+
+-- slot i's child and its slot in it
+found : (c : tie.After-settle) → let s = c .before .before .before .before .before .before .before in c .settle .result ≡ childSlotOf (s .args .self) (lent s) (s .args .i)
+found c =
+    let s = c .before .before .before .before .before .before .before in
+    let x = c .before .before .before .id-at .result in
+    let z = c .before .before .offset-at .result in
+    found-is (s .args .self) (lent s) (s .args .i) (toZ w8 (ofZ w8 x)) (toZ w32 (ofZ w32 z)) (c .before .look .result) (c .settle .result)
+    (toZ-ofZ {w = w8} {z = x} (record { sfits = c .before .before .before .id-at .ok }) ∙ c .before .before .before .id-at .ensures) (toZ-ofZ {w = w32} {z = z} (record { sfits = c .before .before .offset-at .ok }) ∙ c .before .before .offset-at .ensures)
+    (c .before .look .ensures) (c .settle .ensures)
+
+id-at-requires : tie.Need-id-at-requires
+id-at-requires c κs = search needs
+
+offset-at-requires : tie.Need-offset-at-requires
+offset-at-requires c κs = search needs
+
+look-requires : tie.Need-look-requires
+look-requires c κs = search needs
+
+settle-requires : tie.Need-settle-requires
+settle-requires c κs = search needs
+
+returns : tie.Need-returns
+returns c =
+    let s = c .before .before .before .before .before .before .before .before in
+    let t = c .before .settle .result in
+    rw (toZ-ofZ {w = w8} {z = t .id} (record { sfits = c .struct-told .given .1 .1 .1 .0 .1 })) (type-id-is (s .args .self) (lent s) (s .args .i) t (found (c .before)))
+
+pub type-id-spec : {M : Type 1} → statement M
+type-id-spec =
+    tie.close (tie.spec id-at-requires offset-at-requires look-requires settle-requires returns)

@@ -1,0 +1,217 @@
+// Slot lookups: value, type_id, value_offset.
+ghost use mathlib.Core.Path.{_≡_};
+ghost use Prim.Native.Nat.{_+_};
+ghost use lib.Dec.{T};
+ghost use lib.IntN.{pos, natAbs};
+ghost use lib.Signed.{nonNeg};
+ghost use lib.ListN.{getD};
+ghost use Rattle.union_array.specs.Buffers.{buffersOf};
+ghost use Rattle.union_array.specs.Lookup.{valueOf, typeIdOf, valueOffsetOf};
+ghost use Rattle.union_array.specs.ChildSlot.{noChildSlot, settled};
+use crate::Amounts;
+use crate::ChildSlot;
+use crate::Layout;
+use crate::Looked;
+use crate::TypeId;
+use crate::UnionArray;
+use crate::Value;
+use crate::ValueOffset;
+use crate::check;
+use crate::child_value;
+use crate::questions;
+
+// The type id at place start + i, 0 past the end.
+fn id_at(ids: &[i8], start: usize, i: usize) -> i8
+    ensures { λ r. ⌜ r ≡ getD (now (ids .entry)) (start + i) (pos 0) ⌝ }
+{
+    let n = ids.len();
+    if n <= start {
+        return 0;
+    }
+    if n - start <= i {
+        return 0;
+    }
+    let at = start + i;
+    ids[at]
+}
+
+// The offset at place start + i, 0 past the end.
+fn offset_at(offsets: &[i32], start: usize, i: usize) -> i32
+    ensures { λ r. ⌜ r ≡ getD (now (offsets .entry)) (start + i) (pos 0) ⌝ }
+{
+    let n = offsets.len();
+    if n <= start {
+        return 0;
+    }
+    if n - start <= i {
+        return 0;
+    }
+    let at = start + i;
+    offsets[at]
+}
+
+// An offset as a slot's number.
+fn slot_of(offset: i32) -> usize
+    requires { ⌜ T (nonNeg offset) ⌝ }
+    ensures { λ r. ⌜ r ≡ natAbs offset ⌝ }
+{
+    offset as usize
+}
+
+// A refused slot's answer.
+fn no_child_slot(refusal: u8) -> ChildSlot
+    ensures { λ r. ⌜ r ≡ noChildSlot refusal ⌝ }
+{
+    ChildSlot {
+        column: questions::no_column(),
+        slot: 0,
+        refusal: refusal,
+        id: 0,
+    }
+}
+
+// A slot's child and its slot in it, from what was looked up and read for slot i of n.
+fn settle(l: Looked, layout: Layout, n: usize, i: usize, id: i8, offset: i32) -> ChildSlot
+    ensures { λ r. ⌜ r ≡ settled l layout n i id offset ⌝ }
+{
+    if l.refusal != 0 {
+        return no_child_slot(l.refusal);
+    }
+    if n <= i {
+        return no_child_slot(10);
+    }
+    if !l.found {
+        return no_child_slot(7);
+    }
+    let c = l.column;
+    match layout {
+        Layout::Sparse => ChildSlot {
+            column: c,
+            slot: i,
+            refusal: 0,
+            id: id,
+        },
+        Layout::Dense => {
+            if !check::is_within(offset, c.slots) {
+                return no_child_slot(8);
+            }
+            ChildSlot {
+                column: c,
+                slot: slot_of(offset),
+                refusal: 0,
+                id: id,
+            }
+        }
+    }
+}
+
+impl UnionArray {
+    // Slot i's id, name, kind and value.
+    pub fn value(
+        self,
+        i: usize,
+        type_ids: &[i8],
+        offsets: &[i32],
+        values: &[u64],
+        masks: &[u64],
+        names: &[u8],
+    ) -> Value
+        ensures { λ r. ⌜ r ≡ valueOf self (buffersOf (now («type_ids» .entry)) (now (offsets .entry)) (now (values .entry)) (now (masks .entry)) (now (names .entry))) i ⌝ }
+    {
+        let lent = Amounts {
+            ids: type_ids.len(),
+            offsets: offsets.len(),
+            values: values.len(),
+            masks: masks.len(),
+            names: names.len(),
+        };
+        let id = id_at(type_ids, self.start, i);
+        let offset = offset_at(offsets, self.offsets_start, i);
+        let layout = self.layout;
+        let s = settle(
+            questions::look(self, lent, id),
+            layout,
+            self.count,
+            i,
+            id,
+            offset,
+        );
+        if s.refusal != 0 {
+            return child_value::no_value(s.refusal);
+        }
+        let c = s.column;
+        child_value::column_value(c, s.slot, values, masks, names)
+    }
+
+    // Slot i's type id.
+    pub fn type_id(
+        self,
+        i: usize,
+        type_ids: &[i8],
+        offsets: &[i32],
+        values: &[u64],
+        masks: &[u64],
+        names: &[u8],
+    ) -> TypeId
+        ensures { λ r. ⌜ r ≡ typeIdOf self (buffersOf (now («type_ids» .entry)) (now (offsets .entry)) (now (values .entry)) (now (masks .entry)) (now (names .entry))) i ⌝ }
+    {
+        let lent = Amounts {
+            ids: type_ids.len(),
+            offsets: offsets.len(),
+            values: values.len(),
+            masks: masks.len(),
+            names: names.len(),
+        };
+        let id = id_at(type_ids, self.start, i);
+        let offset = offset_at(offsets, self.offsets_start, i);
+        let layout = self.layout;
+        let s = settle(
+            questions::look(self, lent, id),
+            layout,
+            self.count,
+            i,
+            id,
+            offset,
+        );
+        TypeId {
+            refusal: s.refusal,
+            id: s.id,
+        }
+    }
+
+    // Slot i's slot in its child.
+    pub fn value_offset(
+        self,
+        i: usize,
+        type_ids: &[i8],
+        offsets: &[i32],
+        values: &[u64],
+        masks: &[u64],
+        names: &[u8],
+    ) -> ValueOffset
+        ensures { λ r. ⌜ r ≡ valueOffsetOf self (buffersOf (now («type_ids» .entry)) (now (offsets .entry)) (now (values .entry)) (now (masks .entry)) (now (names .entry))) i ⌝ }
+    {
+        let lent = Amounts {
+            ids: type_ids.len(),
+            offsets: offsets.len(),
+            values: values.len(),
+            masks: masks.len(),
+            names: names.len(),
+        };
+        let id = id_at(type_ids, self.start, i);
+        let offset = offset_at(offsets, self.offsets_start, i);
+        let layout = self.layout;
+        let s = settle(
+            questions::look(self, lent, id),
+            layout,
+            self.count,
+            i,
+            id,
+            offset,
+        );
+        ValueOffset {
+            offset: s.slot,
+            refusal: s.refusal,
+        }
+    }
+}

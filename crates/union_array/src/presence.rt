@@ -1,0 +1,48 @@
+// Presence of a child's slots: nothing else reads a child's mask.
+ghost use mathlib.Core.Path.{_≡_};
+ghost use mathlib.Core.Bool.{true};
+ghost use Prim.Native.Nat.{_*_, _≤_, _<_};
+ghost use lib.ListN.{length};
+ghost use Rattle.union_array.specs.Buffers.{onlyMasks};
+ghost use Rattle.union_array.specs.Slots.{present, presenceChunk, nullsIn};
+ghost use Rattle.union_array.specs.Questions.{maskIn};
+use crate::Column;
+use bitmap::NullCount;
+
+// Whether slot p of a child is present.
+pub fn is_present(c: Column, masks: &[u64], p: usize) -> bool
+    requires { ⌜ (p < c .slots) × (maskIn c (length (now masks)) ≡ true) ⌝ }
+    ensures { λ r. ⌜ r ≡ present c (onlyMasks (now (masks .entry))) p ⌝ }
+{
+    if c.masked {
+        return bitmap::get_bit(masks, c.mask, c.bit as usize + p);
+    }
+    true
+}
+
+// Chunk k of the first `len` slots of a child.
+pub fn presence_chunk(c: Column, masks: &[u64], len: usize, k: usize) -> u64
+    requires { ⌜ (64 * k < len) × (len ≤ c .slots) × (maskIn c (length (now masks)) ≡ true) ⌝ }
+    ensures { λ r. ⌜ r ≡ presenceChunk c (onlyMasks (now (masks .entry))) len k ⌝ }
+{
+    if c.masked {
+        return bitmap::chunk(masks, c.mask, c.bit as usize, len, k);
+    }
+    bitmap::low(0xffff_ffff_ffff_ffff, bitmap::span(len - 64 * k))
+}
+
+// How many slots of a child are null.
+pub fn null_count(c: Column, masks: &[u64]) -> NullCount
+    requires { ⌜ maskIn c (length (now masks)) ≡ true ⌝ }
+    ensures { λ r. ⌜ r .nulls ≡ nullsIn c (onlyMasks (now (masks .entry))) ⌝ }
+{
+    let len = c.slots as usize;
+    let mut n = bitmap::empty_count();
+    let mut k: usize = 0;
+    while 64 * k < len {
+        let x = presence_chunk(c, masks, len, k);
+        n = bitmap::counted(n, x, bitmap::span(len - 64 * k));
+        k += 1;
+    }
+    n
+}
