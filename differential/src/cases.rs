@@ -3,6 +3,28 @@
 
 use crate::plain::{Case, Column, Growing, Kind, State, add_column, without_columns};
 
+/// What is compared at a time.
+#[derive(Clone, Debug)]
+pub enum Input {
+    /// All calls on a batch.
+    Batch(Case),
+    /// A chain of slices (o, n), and all calls on the last one.
+    Chain(Case, Vec<(usize, usize)>),
+    /// A list of builder calls.
+    Script(Script),
+    /// A builder filled to its capacity.
+    Fill(Fill),
+}
+
+/// A builder that gets as many appends as it has slots, of names and values that the seed gives.
+#[derive(Clone, Debug)]
+pub struct Fill {
+    pub dense: bool,
+    pub capacity: usize,
+    pub limit: usize,
+    pub seed: u64,
+}
+
 /// Random numbers that a seed gives again (splitmix64).
 #[derive(Clone)]
 pub struct Random(pub u64);

@@ -14,6 +14,16 @@ fn inside(start: usize, length: usize, lent: usize) -> bool {
     within(start as u128, length as u128, lent as u128)
 }
 
+/// The route that a named strategy is.
+pub fn route(strategy: Strategy) -> u8 {
+    match strategy {
+        Strategy::Gather => 3,
+        Strategy::SkipOne => 4,
+        Strategy::SkipWithoutNulls => 5,
+        Strategy::SkipFullyNull => 6,
+    }
+}
+
 impl Case {
     fn in_use(&self) -> impl Iterator<Item = &Column> + Clone {
         (0..self.batch.fields).map(|k| self.batch.column(k))
@@ -315,29 +325,7 @@ impl Book {
     pub fn description(&self) -> Batch {
         let mut order: Vec<usize> = (0..self.columns.len()).collect();
         order.sort_by(|a, b| self.columns[*a].0.cmp(&self.columns[*b].0));
-        let state = self.state();
-        let column = |place: &usize| Column {
-            id: *place as i8,
-            kind: self.columns[*place].1,
-            name: 32 * place,
-            size: state.columns[*place].size,
-            values: place * self.capacity,
-            slots: state.columns[*place].slots,
-            masked: state.columns[*place].masked,
-            mask: place * self.capacity.div_ceil(64),
-            bit: 0,
-        };
-        let count = self.entries.len();
-        Batch {
-            dense: self.dense,
-            fields: order.len(),
-            children: order.len(),
-            start: 0,
-            count,
-            offsets_start: 0,
-            offsets_count: if self.dense { count } else { 0 },
-            columns: order.iter().map(column).collect(),
-        }
+        self.state().description(&order)
     }
 }
 
@@ -362,11 +350,36 @@ impl State {
             && lent.names.len() >= 32 * k
     }
 
-    fn refusal(&self, lent: &Lent) -> u8 {
+    pub fn refusal(&self, lent: &Lent) -> u8 {
         match () {
             _ if !self.is_fit() => 15,
             _ if !self.is_lent_enough(lent) => 16,
             _ => 0,
+        }
+    }
+
+    /// The batch of these columns, listed in the order given.
+    fn description(&self, order: &[usize]) -> Batch {
+        let column = |place: &usize| Column {
+            id: *place as i8,
+            kind: self.columns[*place].kind,
+            name: 32 * place,
+            size: self.columns[*place].size,
+            values: place * self.capacity,
+            slots: self.columns[*place].slots,
+            masked: self.columns[*place].masked,
+            mask: place * self.capacity.div_ceil(64),
+            bit: 0,
+        };
+        Batch {
+            dense: self.dense,
+            fields: order.len(),
+            children: order.len(),
+            start: 0,
+            count: self.len,
+            offsets_start: 0,
+            offsets_count: if self.dense { self.len } else { 0 },
+            columns: order.iter().map(column).collect(),
         }
     }
 
@@ -382,6 +395,64 @@ impl State {
         };
         let entries = (0..self.len).map(entry).collect();
         Book { dense: self.dense, capacity: self.capacity, limit: self.limit, columns, entries }
+    }
+}
+
+/// A builder's state and memory, one accepted append after another: what `Book` tells from the whole list, told step
+/// by step, for long lists.
+pub struct Growth {
+    pub state: State,
+    pub lent: Lent,
+    pub names: Vec<Vec<u8>>,
+    pub kinds: Vec<usize>,
+}
+
+impl Growth {
+    pub fn new(dense: bool, capacity: usize, limit: usize, lent: Lent) -> Self {
+        Growth { state: State { dense, capacity, limit, ..State::default() }, lent, names: vec![], kinds: vec![] }
+    }
+
+    fn put(&mut self, place: usize, word: Option<u64>) {
+        let capacity = self.state.capacity;
+        let column = &mut self.state.columns[place];
+        self.lent.values[place * capacity + column.slots] = word.unwrap_or(0);
+        self.lent.set_mask_bit(64 * place * capacity.div_ceil(64) + column.slots, word.is_some());
+        column.slots += 1;
+        column.masked |= word.is_none();
+    }
+
+    pub fn append(&mut self, name: &[u8], kind: Kind, word: Option<u64>) {
+        let len = self.state.len;
+        let known = self.names.iter().position(|known| known == name);
+        let place = known.unwrap_or(self.names.len());
+        if known.is_none() {
+            self.names.push(name.to_vec());
+            self.kinds.push(kind as usize);
+            self.state.columns.push(Growing { kind, size: name.len(), slots: 0, masked: false });
+            self.lent.names[32 * place..][..name.len()].copy_from_slice(name);
+            for _ in 0..if self.state.dense { 0 } else { len } {
+                self.put(place, None);
+            }
+        }
+        self.lent.type_ids[len] = place as i8;
+        if self.state.dense {
+            self.lent.offsets[len] = self.state.columns[place].slots as i32;
+        }
+        for other in 0..self.names.len() {
+            if other == place {
+                self.put(place, word.map(|word| kind.cut(word)));
+            } else if !self.state.dense {
+                self.put(other, None);
+            }
+        }
+        self.state.len += 1;
+    }
+
+    /// The batch that `finish` describes.
+    pub fn description(&self) -> Batch {
+        let mut order: Vec<usize> = (0..self.names.len()).collect();
+        order.sort_by(|a, b| self.names[*a].cmp(&self.names[*b]));
+        self.state.description(&order)
     }
 }
 
@@ -465,6 +536,11 @@ impl Port for Model {
         (first, first == 0 && case.masked().0 > 0)
     }
 
+    fn type_ids(&self, batch: &Batch, lent: &Lent) -> (u8, usize, usize) {
+        let first = case(batch, lent).first_no();
+        if first == 0 { (0, batch.start, batch.count) } else { (first, 0, 0) }
+    }
+
     fn slice(&self, batch: &Batch, lent: &Lent, start: usize, count: usize) -> (u8, Batch) {
         let case = case(batch, lent);
         match case.first_no() {
@@ -473,13 +549,13 @@ impl Port for Model {
         }
     }
 
-    fn null_mask(&self, batch: &Batch, lent: &Lent, cost: u8, out: &mut [u64]) -> (u8, Mask) {
+    fn null_mask(&self, batch: &Batch, lent: &Lent, cost: usize, out: &mut [u64]) -> (u8, Mask) {
         let case = case(batch, lent);
         let number = match case.try_new() {
             0 if ![10, 3, 2, 0].contains(&cost) => 12,
             number => number,
         };
-        let route = if number == 0 { case.route(usize::from(cost)) } else { 0 };
+        let route = if number == 0 { case.route(cost) } else { 0 };
         self.mask(&case, number, route, matches!(route, 1 | 2), out)
     }
 
@@ -489,8 +565,7 @@ impl Port for Model {
             0 if !case.strategy_applies(strategy) => 14,
             number => number,
         };
-        let (number, mask) = self.mask(&case, number, 3, false, out);
-        (number, Mask { route: 0, ..mask })
+        self.mask(&case, number, route(strategy), false, out)
     }
 
     fn with_capacity(&self, dense: bool, capacity: usize, limit: usize, lent: &Lent) -> (u8, State) {
@@ -499,6 +574,10 @@ impl Port for Model {
             0 => (0, state),
             number => (number, State::default()),
         }
+    }
+
+    fn new(&self, dense: bool, limit: usize, lent: &Lent) -> (u8, State) {
+        self.with_capacity(dense, 1024, limit, lent)
     }
 
     fn append(&self, state: &State, lent: &mut Lent, name: &[u8], kind: Kind, word: Option<u64>) -> (u8, State) {
