@@ -1,5 +1,5 @@
 //! The original union array and builder, run, and compared with the port.
-//!   differential [--seed N] [--cases N] [--self]
+//!   differential [--seed N] [--cases N] [--self] [--compare-only]
 //!   differential --sample N --seed N --into DIR
 
 mod cases;
@@ -121,14 +121,17 @@ fn main() {
     if word("--sample").is_some() {
         return sample::write(option("--sample", 40), seed, &word("--into").expect("--into DIR"));
     }
+    let flag = |name: &str| std::env::args().any(|argument| argument == name);
     let mut tally = Tally::default();
-    selfcheck::documented(&mut tally);
-    selfcheck::edges(&mut tally);
-    findings::all(&mut tally);
+    if !flag("--compare-only") {
+        selfcheck::documented(&mut tally);
+        selfcheck::edges(&mut tally);
+        findings::all(&mut tally);
+    }
     if !tally.close("the original alone: its examples, document 01's edges, the findings") {
         std::process::exit(1);
     }
-    let total = if std::env::args().any(|argument| argument == "--self") {
+    let total = if flag("--self") {
         println!("the model in the port's place, seed {seed}, {cases} cases");
         compare(&model::Model, seed, cases, 1500)
     } else {
