@@ -19,6 +19,17 @@ pub struct Mask {
     pub route: u8,
 }
 
+/// An append's name, kind and word, or none for a null.
+pub type Reading = (Vec<u8>, Kind, Option<u64>);
+
+/// Where a run of lookups puts its answers.
+#[derive(Clone, Debug, PartialEq, Eq)]
+pub struct Outputs {
+    pub ids: Vec<i8>,
+    pub missing: Vec<u8>,
+    pub bits: Vec<u64>,
+}
+
 /// The port's calls in plain terms. The first part of an answer is the refusal's number, 0 if accepted; on a refusal
 /// all other parts are zeros (`Value::default()`, `Column::EMPTY`, `Batch::empty()`, an empty list).
 pub trait Port {
@@ -52,6 +63,20 @@ pub trait Port {
         word: Option<u64>,
     ) -> (u8, State) {
         self.append(state, lent, name, kind, word)
+    }
+    /// A run of appends, with the number of each; none if the port has no such call.
+    fn appends(
+        &self,
+        _state: &State,
+        _lent: &mut Lent,
+        _readings: &[Reading],
+        _refusals: &mut [u8],
+    ) -> Option<(u8, State)> {
+        None
+    }
+    /// The slots of a run, one entry of each output to a slot; none if the port has no such call.
+    fn values(&self, _batch: &Batch, _lent: &Lent, _first: usize, _count: usize, _out: &mut Outputs) -> Option<u8> {
+        None
     }
     fn len(&self, state: &State) -> (usize, State);
     fn finish_cloned(&self, state: &State, lent: &Lent) -> (u8, Batch, State);
@@ -165,6 +190,7 @@ impl<P: Port> Comparison<'_, P> {
             let slot = if count <= 150 { turn } else { self.random.below(count) };
             self.slot(case, union, slot);
         }
+        self.values(case, union);
         let tally = &mut self.tally;
         for out in [count, count + 1, usize::MAX] {
             tally.same("10 is a panic of the original", union.value(out).sort(), "panicked");
@@ -200,6 +226,47 @@ impl<P: Port> Comparison<'_, P> {
         }
         for column in &batch.columns {
             self.child(case, union, column.id);
+        }
+    }
+
+    /// Runs of lookups, each slot's answer being that of `value`.
+    fn values(&mut self, case: &Case, union: &Union) {
+        let count = case.batch.count;
+        let first = self.random.below(count + 1);
+        let most = (count - first).min(70);
+        for (first, length) in [(0, count.min(70)), (first, most), (first, count - first + 1), (usize::MAX, 2)] {
+            let room = length.min(200) + self.random.below(3);
+            let mut out = Outputs { ids: vec![9; room], missing: vec![9; room], bits: vec![9; room] };
+            let mut after = out.clone();
+            let whole = first.checked_add(length).is_some_and(|end| end <= count);
+            let mut number = if whole { 0 } else { 10 };
+            for k in 0..if whole { length } else { 0 } {
+                match union.value(first + k) {
+                    Outcome::Answer(value) => {
+                        (after.ids[k], after.missing[k]) = (value.id, value.missing.into());
+                        after.bits[k] = if value.missing { 0 } else { value.bits };
+                    }
+                    _ if number == 0 => number = case.slot_no(first + k),
+                    _ => (),
+                }
+            }
+            if number != 0 {
+                after = out.clone();
+            }
+            let Some(answer) = self.port.values(&case.batch, &case.lent, first, length, &mut out) else { return };
+            self.tally.same("run of values", (answer, &out), (number, &after));
+            if whole && length > 0 {
+                let mut few = Outputs { ids: vec![9; length], missing: vec![9; length], bits: vec![9; length] };
+                match self.random.below(3) {
+                    0 => drop(few.ids.pop()),
+                    1 => drop(few.missing.pop()),
+                    _ => drop(few.bits.pop()),
+                }
+                let before = few.clone();
+                let answer = self.port.values(&case.batch, &case.lent, first, length, &mut few);
+                let number = if number == 0 { 129 } else { number };
+                self.tally.same("run of values: 129", (answer, few), (Some(number), before));
+            }
         }
     }
 
@@ -385,6 +452,7 @@ impl<P: Port> Comparison<'_, P> {
         let (number, state) = self.port.with_capacity(dense, capacity, limit, &lent);
         self.tally.same("making", (number, &state), (0, &book.state()));
         self.makings(script, &lent);
+        self.run_of_appends(script, &state, &lent);
         let original = Builder::with_capacity(dense, capacity);
         let mut all = Building { script, state, original, book, lent, accepted: vec![], mismatched: false };
         for (call, shortage) in &script.calls {
@@ -401,6 +469,30 @@ impl<P: Port> Comparison<'_, P> {
             if self.random.one_in(20) {
                 self.unfit(&all);
             }
+        }
+    }
+
+    /// All appends of the list at once, against one after another.
+    fn run_of_appends(&mut self, script: &Script, fresh: &State, lent: &Lent) {
+        let readings: Vec<Reading> = script.calls.iter().filter_map(|(call, _)| reading(call)).collect();
+        let mut refusals = vec![200; readings.len() + 1];
+        let mut run = lent.clone();
+        let Some(answer) = self.port.appends(fresh, &mut run, &readings, &mut refusals) else { return };
+        let (mut state, mut single, mut numbers) = (fresh.clone(), lent.clone(), Vec::new());
+        for (name, kind, word) in &readings {
+            let (number, after) = self.port.append(&state, &mut single, name, *kind, *word);
+            numbers.push(number);
+            state = after;
+        }
+        numbers.push(200);
+        self.tally.same("run of appends: numbers", &refusals, &numbers);
+        self.tally.same("run of appends: the state", answer, (0, state));
+        self.tally.same("run of appends: memory written and kept", run == single, true);
+        if !readings.is_empty() {
+            let mut run = lent.clone();
+            let answer = self.port.appends(fresh, &mut run, &readings, &mut refusals[1..readings.len()]);
+            self.tally.same("run of appends: 129", answer, Some((129, fresh.clone())));
+            self.tally.same("run of appends: 129, memory kept", (&run == lent, &refusals), (true, &numbers));
         }
     }
 
@@ -571,6 +663,15 @@ impl<P: Port> Comparison<'_, P> {
         self.batch(&case);
         let slices = cases::slices(&mut self.random, capacity);
         self.chain(&case, &slices);
+    }
+}
+
+/// The reading that a call appends; names that a run cannot hold are left out.
+fn reading(call: &Call) -> Option<Reading> {
+    match call {
+        Call::Append { name, kind, word } => Some((name.clone(), *kind, Some(*word))),
+        Call::AppendNull { name, kind } => Some((name.clone(), *kind, None)),
+        _ => None,
     }
 }
 

@@ -2,6 +2,8 @@
 //! A slice is a pointer and a length. What an answer holds where it should hold zeros is kept, so that it is seen.
 
 use crate::compare::{Mask, Port};
+#[cfg(runs)]
+use crate::compare::{Outputs, Reading};
 use crate::model::route;
 use crate::oracle::{Strategy, Value};
 use crate::plain::{Batch, Column, Growing, Kind, Lent, State, add_column, without_columns};
@@ -169,11 +171,11 @@ macro_rules! exported {
 }
 
 macro_rules! exported_writing {
-    ($($name:ident($($before:ident: $type:ty),*; lent mut) -> $answer:ty;)*) => {
+    ($($name:ident($($before:ident: $type:ty),*; lent mut $(; $after:ident: $last:ty)*) -> $answer:ty;)*) => {
         unsafe extern "C" {$(
             fn $name($($before: $type,)* type_ids: *mut i8, type_ids_len: usize, offsets: *mut i32,
                 offsets_len: usize, values: *mut u64, values_len: usize, masks: *mut u64, masks_len: usize,
-                names: *mut u8, names_len: usize) -> $answer;
+                names: *mut u8, names_len: usize $(, $after: $last)*) -> $answer;
         )*}
     };
 }
@@ -208,28 +210,43 @@ unsafe extern "C" {
     fn union_builder_len(builder: CBuilder) -> CLength;
 }
 
+#[cfg(runs)]
+exported! {
+    union_array_values(array: CArray, first: usize, n: usize; lent; ids: *mut i8; ids_len: usize; missing: *mut u8;
+        missing_len: usize; bits: *mut u64; bits_len: usize) -> u8;
+}
+
+#[cfg(runs)]
+exported_writing! {
+    union_builder_appends(builder: CBuilder, text: *const u8, text_len: usize, starts: *const u32, starts_len: usize,
+        sizes: *const u8, sizes_len: usize, kinds: *const u8, kinds_len: usize, present: *const u8,
+        present_len: usize, bits: *const u64, bits_len: usize; lent mut; refusals: *mut u8; refusals_len: usize)
+        -> CBuilt;
+}
+
 /// Calls a function of the port over lent memory that it reads.
 macro_rules! call {
-    ($name:ident($($argument:expr),*; $lent:expr $(; $out:expr)?)) => {{
+    ($name:ident($($argument:expr),*; $lent:expr $(; $out:expr)*)) => {{
         let lent: &Lent = $lent;
         // SAFETY: each pointer is that of a slice of the length given.
         unsafe {
             $name($($argument,)* lent.type_ids.as_ptr(), lent.type_ids.len(), lent.offsets.as_ptr(),
                 lent.offsets.len(), lent.values.as_ptr(), lent.values.len(), lent.masks.as_ptr(), lent.masks.len(),
-                lent.names.as_ptr(), lent.names.len() $(, $out.as_mut_ptr(), $out.len())?)
+                lent.names.as_ptr(), lent.names.len() $(, $out.as_mut_ptr(), $out.len())*)
         }
     }};
 }
 
 /// Calls a function of the port over lent memory that it writes.
 macro_rules! call_writing {
-    ($name:ident($($argument:expr),*; $lent:expr)) => {{
+    ($name:ident($($argument:expr),*; $lent:expr $(; $out:expr)*)) => {{
         let lent: &mut Lent = $lent;
         // SAFETY: each pointer is that of a slice of the length given.
         unsafe {
             $name($($argument,)* lent.type_ids.as_mut_ptr(), lent.type_ids.len(), lent.offsets.as_mut_ptr(),
                 lent.offsets.len(), lent.values.as_mut_ptr(), lent.values.len(), lent.masks.as_mut_ptr(),
-                lent.masks.len(), lent.names.as_mut_ptr(), lent.names.len())
+                lent.masks.len(), lent.names.as_mut_ptr(), lent.names.len()
+                $(, $out.as_mut_ptr(), $out.len())*)
         }
     }};
 }
@@ -494,6 +511,35 @@ impl Port for Proved {
             None => call_writing!(union_builder_append_null(builder, at, size, kind; lent)),
         };
         (built.refusal, state_of(&built.builder))
+    }
+
+    #[cfg(runs)]
+    fn appends(
+        &self,
+        state: &State,
+        lent: &mut Lent,
+        readings: &[Reading],
+        refusals: &mut [u8],
+    ) -> Option<(u8, State)> {
+        let text: Vec<u8> = readings.iter().flat_map(|(name, _, _)| name.clone()).collect();
+        let sizes: Vec<u8> = readings.iter().map(|(name, _, _)| name.len() as u8).collect();
+        let starts: Vec<u32> = sizes.iter().scan(0, |end, size| {
+            let start = *end;
+            *end += u32::from(*size);
+            Some(start)
+        }).collect();
+        let kinds: Vec<u8> = readings.iter().map(|(_, kind, _)| *kind as u8).collect();
+        let present: Vec<u8> = readings.iter().map(|(_, _, word)| u8::from(word.is_some())).collect();
+        let bits: Vec<u64> = readings.iter().map(|(_, _, word)| word.unwrap_or(3)).collect();
+        let built = call_writing!(union_builder_appends(builder_to(state), text.as_ptr(), text.len(), starts.as_ptr(),
+            starts.len(), sizes.as_ptr(), sizes.len(), kinds.as_ptr(), kinds.len(), present.as_ptr(), present.len(),
+            bits.as_ptr(), bits.len(); lent; refusals));
+        Some((built.refusal, state_of(&built.builder)))
+    }
+
+    #[cfg(runs)]
+    fn values(&self, batch: &Batch, lent: &Lent, first: usize, count: usize, out: &mut Outputs) -> Option<u8> {
+        Some(call!(union_array_values(array_to(batch), first, count; lent; out.ids; out.missing; out.bits)))
     }
 
     fn len(&self, state: &State) -> (usize, State) {
