@@ -2,18 +2,18 @@
 use mathlib.Core.Path.{_≡_, refl, sym, ap, ap₂, _∙_, subst}
 use mathlib.Core.Bool.{Bool, true, false, cond, not, _&&_, false≢true}
 use mathlib.Core.List.{List, [], _∷_}
-use mathlib.Core.Option.{Option, none, some}
-use Prim.Native.Nat.{ℕ, zero, suc, _+_, _-_, _*_, _≤_, _<_}
-use native.Mathlib.Nat.{not-suc-le-zero, le-of-suc-le-suc}
+use mathlib.Core.Option.{some}
+use Prim.Native.Nat.{ℕ, zero, suc, _-_, _≤_, _<_}
+use native.Mathlib.Nat.{not-suc-le-zero}
 use native.Mathlib.Omega.{arith}
-use borrow.Author.Tests.{eq-eqb, ne-eqb, eqb-true, le-leb, lt-leb, leb-true}
+use borrow.Author.Tests.{eqb-true, le-leb, lt-leb, leb-true}
 use lib.Dec.{eqb, leb, ltb}
 use lib.IntN.{ℤ}
 use lib.ListN.{length, getD, take, replicate}
 use Rattle.bitmap.specs.Bits.{digit, count, wordsFor, written}
 use Rattle.bitmap.specs.Lists.{retable}
 use Rattle.bitmap.proofs.Words.{count-ext}
-use Rattle.bitmap.proofs.Tables.{both, retable-at, retable-past}
+use Rattle.bitmap.proofs.Tables.{both, retable-at}
 use Rattle.bitmap.proofs.Setting.{written-ext}
 use Rattle.union_array.specs.declared.Column.{Column}
 use Rattle.union_array.specs.declared.Layout.{Layout}
@@ -27,11 +27,10 @@ use Rattle.union_array.specs.Slots.{inUse, all, childAt, slotAt, present, nulls
 use Rattle.union_array.specs.Questions.{checked, partIn, columnIn, maskIn}
 use Rattle.union_array.proofs.Accepted.{all-accepted}
 use Rattle.logical_nulls.specs.declared.Processor.{Processor}
-use Rattle.logical_nulls.specs.declared.Setting.{Setting}
 use Rattle.logical_nulls.specs.declared.Setting.the-variants.{Of, Refused}
 use Rattle.logical_nulls.specs.Setting.{question12, settingOf}
-use Rattle.logical_nulls.specs.Route.{Choice, cheaper, sparseRoute, hasNull, fullyNull, withNulls, fullyNulls, oneFieldRoute, manyFieldsRoute, routeOf}
-use Rattle.logical_nulls.specs.Mask.{LogicalNulls, SparseStrategy, Gather, SkipOne, SkipWithoutNulls, SkipFullyNull, Masked, masked, maskedBy, answerOn, question13, question14, applies, nullsChecked, logicalNullsOf, strategyRoute, strategyChecked, strategyOf}
+use Rattle.logical_nulls.specs.Route.{Choice, cheaper, sparseRoute, fullyNull, withNulls, fullyNulls, oneFieldRoute, manyFieldsRoute, routeOf}
+use Rattle.logical_nulls.specs.Mask.{LogicalNulls, SparseStrategy, Gather, SkipOne, SkipWithoutNulls, SkipFullyNull, Masked, masked, maskedBy, answerOn, question13, question14, applies, logicalNullsOf, strategyRoute, strategyOf}
 use Rattle.logical_nulls.specs.Fields.{Field, Fields, noField, fieldAt, noFields, fieldsOf, routeBy, routeFor}
 use Rattle.logical_nulls.specs.Ready.{reads, Ready, refusedWith, mayRunOn, mayRun}
 use Rattle.logical_nulls.proofs.FieldStates.{many-le}
@@ -252,15 +251,18 @@ module _ (a : UnionArray) (fs : Fields) (ids offsets : List ℤ) (values masks n
   pub mask-ready : (gather route n : ℕ) → checked a m ≡ 0 → fs ≡ fieldsOf a (onlyMasks masks) → n ≡ wordsFor (a .count) → n ≤ length out → route ≡ routeOf a m gather
       → (route ≡ 0 → ⊥) → Ready a fs route ids offsets masks out × (1 ≤ route)
   unfolding fullyNulls nullsIn present
-  mask-ready gather route n c e q w r h = (record {
-    values = values;
-    names = names;
-    accepted = c;
-    fields = e;
-    lent = omega arith;
-    some = route-some a m gather (λ z. h (r ∙ z));
-    full = λ z. route-full a m gather (sym r ∙ z);
-  }, by route h)
+  mask-ready gather route n c e q w r h = (
+    record {
+      values = values;
+      names = names;
+      accepted = c;
+      fields = e;
+      lent = omega arith;
+      some = route-some a m gather (λ z. h (r ∙ z));
+      full = λ z. route-full a m gather (sym r ∙ z);
+    },
+    by route h,
+  )
     where
       by : (k : ℕ) → (k ≡ 0 → ⊥) → 1 ≤ k
       by zero h = absurd (h refl)
@@ -287,15 +289,18 @@ module _ (a : UnionArray) (fs : Fields) (ids offsets : List ℤ) (values masks n
   pub strategy-ready : (s : SparseStrategy) (route n : ℕ) → checked a m ≡ 0 → fs ≡ fieldsOf a (onlyMasks masks) → n ≡ wordsFor (a .count) → n ≤ length out → route ≡ strategyRoute s
       → question14 s a m ≡ true → Ready a fs route ids offsets masks out × (1 ≤ route)
   unfolding question14
-  strategy-ready s route n c e q w r h = (record {
-    values = values;
-    names = names;
-    accepted = c;
-    fields = e;
-    lent = omega arith;
-    some = omega (arith, leb-true 2 (a .fields) (both (leb 2 (a .fields)) (applies s a m) h .0));
-    full = λ z. absurd (omega (arith, strategy-least s));
-  }, omega (arith, strategy-least s))
+  strategy-ready s route n c e q w r h = (
+    record {
+      values = values;
+      names = names;
+      accepted = c;
+      fields = e;
+      lent = omega arith;
+      some = omega (arith, leb-true 2 (a .fields) (both (leb 2 (a .fields)) (applies s a m) h .0));
+      full = λ z. absurd (omega (arith, strategy-least s));
+    },
+    omega (arith, strategy-least s),
+  )
 
 -- ---- question 14, a case at a time
 

@@ -1,6 +1,6 @@
 -- Type ids and offsets as the machine holds them, read as indices. Assumes nothing.
 use mathlib.Core.Path.{_≡_, sym, subst}
-use Prim.Native.Nat.{ℕ, _≤_, _<_}
+use Prim.Native.Nat.{_≤_, _<_}
 use native.Mathlib.Omega.{arith}
 use lib.Dec.{T}
 use lib.IntN.{ℤ, natAbs}

@@ -1,8 +1,8 @@
 -- What a state says, and the lists of states and counts as the loop of `fields_of` makes them. Assumes nothing.
-use mathlib.Core.Path.{_≡_, refl, sym, ap, ap₂, _∙_, subst}
-use mathlib.Core.Bool.{Bool, true, false, cond, not, _&&_, false≢true}
+use mathlib.Core.Path.{_≡_, refl, sym, ap, ap₂, _∙_}
+use mathlib.Core.Bool.{Bool, true, false, cond, not, _&&_}
 use mathlib.Core.List.{List, [], _∷_, _++_, map}
-use Prim.Native.Nat.{ℕ, zero, suc, _+_, _≤_, _<_, zero-le, suc-le-suc}
+use Prim.Native.Nat.{ℕ, zero, suc, _+_, _≤_, _<_, zero-le}
 use native.Mathlib.Nat.{not-suc-le-zero, le-of-suc-le-suc}
 use native.Mathlib.Numerals.{add-one}
 use native.Mathlib.Omega.{arith}
@@ -11,7 +11,7 @@ use lib.Dec.{eqb, ltb}
 use lib.ListN.{getD, take, length, replicate, length-replicate}
 use lib.Seq.{take-suc}
 use mir.Val.{boolByte}
-use Rattle.bitmap.specs.Bits.{digit, count, isFullyNull}
+use Rattle.bitmap.specs.Bits.{digit}
 use Rattle.bitmap.specs.Lists.{table, retable}
 use Rattle.bitmap.proofs.Words.{digit-lt}
 use Rattle.bitmap.proofs.Tables.{retable-none}
@@ -113,20 +113,6 @@ many-all p (suc n) (c ∷ cs) e = at (p c) refl (many-all p n cs)
     at false q r = let d : digit (p c) ≡ 0 = ap digit q in absurd (omega (arith, many-le p n cs))
 
 -- ---- the fields in use are those of the columns in use
-
-pub all-at : (p : Column → Bool) (n : ℕ) (cs : List Column) → all p (take n cs) ≡ true → (q : ℕ) → q < n → q < length cs → p (getD cs q noColumn) ≡ true
-all-at p zero cs e q h b = absurd (not-suc-le-zero h)
-all-at p (suc n) [] e q h b = absurd (not-suc-le-zero b)
-all-at p (suc n) (c ∷ cs) e zero h b = first (p c) (all p (take n cs)) e
-  where
-    first : (a b : Bool) → (a && b) ≡ true → a ≡ true
-    first true b e = refl
-    first false b e = e
-all-at p (suc n) (c ∷ cs) e (suc q) h b = all-at p n cs (rest (p c) (all p (take n cs)) e) q (le-of-suc-le-suc h) (le-of-suc-le-suc b)
-  where
-    rest : (a b : Bool) → (a && b) ≡ true → b ≡ true
-    rest true b e = e
-    rest false b e = absurd (false≢true e)
 
 table-map : (m : Buffers) (n : ℕ) (cs : List Column) → n ≤ length cs → table n (fieldAt m cs) ≡ map (fieldOf m) (take n cs)
 table-map m zero cs h = refl

@@ -2,7 +2,7 @@
 use mathlib.Core.Path.{_≡_, refl, sym, ap, ap₂, _∙_}
 use mathlib.Core.Bool.{Bool, true, false, not, _&&_, _||_}
 use mathlib.Core.List.{List, [], _∷_, _++_}
-use Prim.Native.Nat.{ℕ, zero, suc, _+_, _-_, _*_, _%_, _^_, _≤_, _<_, min}
+use Prim.Native.Nat.{ℕ, _+_, _-_, _*_, _%_, _^_, _≤_, _<_, min}
 use native.Mathlib.Nat.{add-assoc, le-of-suc-le-suc, lt-of-not-le}
 use native.Mathlib.Numerals.{add-one}
 use native.Mathlib.Decide.{decLt}
@@ -13,7 +13,7 @@ use lib.ListN.{getD, take, drop, length}
 use lib.Seq.{take-suc, drop-append-le, length-take-le, drop-length}
 use lib.IntN.{ℤ, pos}
 use lib.Bits.{bitAnd, bitOr}
-use Rattle.bitmap.specs.Bits.{pack, sameId, selectionOf}
+use Rattle.bitmap.specs.Bits.{sameId, selectionOf}
 use Rattle.bitmap.proofs.Words.{pack-ext, pack-none, and-pack, or-pack, not-pack, low-pack, or-false}
 use Rattle.union_array.specs.declared.Column.{Column}
 use Rattle.union_array.specs.Buffers.{Buffers, onlyMasks}

@@ -1,13 +1,12 @@
 -- What each route writes is the null mask. Assumes nothing.
 use mathlib.Core.Path.{_≡_, refl, sym, ap, ap₂, _∙_, subst}
-use mathlib.Core.Bool.{Bool, true, false, cond, not, _&&_, false≢true}
+use mathlib.Core.Bool.{Bool, true, false, cond, not, false≢true}
 use mathlib.Core.List.{List, map}
 use mathlib.Core.Option.{Option, none, some}
-use Prim.Native.Nat.{ℕ, zero, suc, _+_, _*_, _^_, _≤_, _<_}
-use native.Mathlib.Nat.{zero-add}
+use Prim.Native.Nat.{ℕ, _*_, _^_, _≤_, _<_}
 use native.Mathlib.Omega.{arith}
-use borrow.Author.Tests.{eq-eqb, ne-eqb, eqb-true}
-use lib.Dec.{T, eqb, leb}
+use borrow.Author.Tests.{ne-eqb}
+use lib.Dec.{T, eqb}
 use lib.IntN.{ℤ}
 use lib.ListN.{length, getD}
 use lib.Signed.{nonNeg}
@@ -25,10 +24,10 @@ use Rattle.union_array.specs.Questions.{maskIn}
 use Rattle.union_array.specs.Lookup.{orNone}
 use Rattle.union_array.proofs.Columns.{all-found}
 use Rattle.union_array.proofs.Accepted.{AllAccepted, all-accepted, column-at, slots-at}
-use Rattle.logical_nulls.specs.Mask.{LogicalNulls, Masked, masked, maskedBy, answerOn}
+use Rattle.logical_nulls.specs.Mask.{LogicalNulls, masked, maskedBy, answerOn}
 use Rattle.logical_nulls.specs.Route.{fullyNull, fullyNulls}
-use Rattle.logical_nulls.specs.Fields.{Field, Fields, noField, stateOf, fieldOf, fieldAt, asColumn, noFields, fieldsOf, inList}
-use Rattle.logical_nulls.specs.Steps.{wordsOf, stepAt, skipOneAt, skipWithoutAt, skipFullyAt, Chunk}
+use Rattle.logical_nulls.specs.Fields.{Field, Fields, noField, stateOf, fieldOf, fieldAt, asColumn, noFields, inList}
+use Rattle.logical_nulls.specs.Steps.{wordsOf, stepAt, Chunk}
 use Rattle.logical_nulls.specs.Table.{tableOf, childSlot, gatheredAt, Gathers}
 use Rattle.logical_nulls.specs.Ready.{reads, Ready}
 use Rattle.logical_nulls.proofs.FieldStates.{fields-in, many-all, none-present, not-full}

@@ -1,17 +1,15 @@
 -- The ways out of the functions that choose a setting and a route. Assumes nothing.
-use mathlib.Core.Path.{_≡_, refl, sym, ap, _∙_}
+use mathlib.Core.Path.{_≡_, refl, ap, _∙_}
 use mathlib.Core.Bool.{Bool, true, false, _||_}
-use Prim.Native.Nat.{ℕ, zero, suc, _≤_, _<_}
-use native.Mathlib.Omega.{arith}
+use Prim.Native.Nat.{ℕ, _≤_, _<_}
 use borrow.Author.Tests.{lt-ltb, le-ltb, eq-eqb, ne-eqb, le-leb, lt-leb}
-use lib.Dec.{ltb, eqb, leb}
+use lib.Dec.{eqb}
 use mir.Val.{boolByte}
-use Rattle.bitmap.specs.Bits.{digit}
 use Rattle.bitmap.proofs.OneBit.{byte-digit}
 use Rattle.union_array.specs.declared.Layout.{Layout}
 use Rattle.union_array.specs.Types.{byLayout}
 use Rattle.logical_nulls.specs.declared.Setting.the-variants.{Of, Refused}
-use Rattle.logical_nulls.specs.Setting.{Processor, Setting, question12, settingOf}
+use Rattle.logical_nulls.specs.Setting.{question12, settingOf}
 use Rattle.logical_nulls.specs.Route.{Choice, cheaper, sparseRoute}
 use Rattle.logical_nulls.specs.Fields.{routeBy}
 

@@ -2,11 +2,11 @@
 use mathlib.Core.Path.{_≡_, refl, sym, ap, ap₂, _∙_, subst}
 use mathlib.Core.Bool.{Bool, true, false, cond, not, _&&_, _||_, false≢true}
 use mathlib.Core.List.{List, [], _∷_, map}
-use mathlib.Core.Option.{Option, none, some}
-use Prim.Native.Nat.{ℕ, zero, suc, _+_, _≤_, _<_}
+use mathlib.Core.Option.{Option, some}
+use Prim.Native.Nat.{ℕ, _<_}
 use lib.Dec.{ltb}
-use lib.IntN.{ℤ, pos, natAbs}
-use lib.ListN.{getD, take, drop, length}
+use lib.IntN.{ℤ, natAbs}
+use lib.ListN.{getD, drop}
 use Rattle.bitmap.specs.Bits.{sameId}
 use Rattle.bitmap.proofs.Words.{or-false}
 use Rattle.bitmap.proofs.Ids.{sameId-eq, sameId-sym}
@@ -17,13 +17,13 @@ use Rattle.union_array.specs.declared.Layout.{Layout}
 use Rattle.union_array.specs.declared.Layout.the-variants.{Sparse}
 use Rattle.union_array.specs.declared.UnionArray.{UnionArray}
 use Rattle.union_array.specs.Types.{byLayout}
-use Rattle.union_array.specs.Buffers.{Buffers, onlyMasks}
+use Rattle.union_array.specs.Buffers.{Buffers}
 use Rattle.union_array.specs.Slots.{inUse, columnOf, isSome, typeIdAt, offsetAt, childAt, slotAt, present, nullIn, slotNull}
 use Rattle.union_array.specs.Lookup.{orNone}
 use Rattle.union_array.specs.Questions.{distinct}
 use Rattle.union_array.proofs.Accepted.{AllAccepted, child-is, slot-in}
-use Rattle.logical_nulls.specs.Fields.{Field, noField, stateOf, fieldOf, asColumn}
-use Rattle.logical_nulls.specs.Steps.{All, WithNulls, NotFull, any, fieldPresent, chosen, selectedAt, presentAt, skipOneAt, skipWithoutAt, skipFullyAt}
+use Rattle.logical_nulls.specs.Fields.{Field, noField, stateOf, fieldOf}
+use Rattle.logical_nulls.specs.Steps.{any, fieldPresent, skipOneAt, skipWithoutAt, skipFullyAt}
 use Rattle.logical_nulls.proofs.Marking.{any-ext, any-less}
 use Rattle.logical_nulls.proofs.FieldStates.{all-present, none-present}
 

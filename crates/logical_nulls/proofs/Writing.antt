@@ -1,17 +1,16 @@
 -- The words of a mask, written one at a time; and the ways out of the step of a route and of the answer. Assumes nothing.
-use mathlib.Core.Path.{_≡_, refl, sym, ap, ap₂, _∙_}
-use mathlib.Core.Bool.{Bool, true, false, cond, not, _&&_}
+use mathlib.Core.Path.{_≡_, refl, sym, ap, _∙_}
+use mathlib.Core.Bool.{Bool, true, false, not}
 use mathlib.Core.List.{List}
-use Prim.Native.Nat.{ℕ, zero, suc, _+_, _*_, _≤_, _<_}
+use Prim.Native.Nat.{ℕ, _*_, _≤_, _<_}
 use native.Mathlib.Omega.{arith}
 use borrow.Author.Tests.{eq-eqb, ne-eqb, le-leb, lt-leb}
-use lib.Dec.{eqb, leb}
+use lib.Dec.{eqb}
 use lib.IntN.{ℤ}
-use lib.ListN.{length}
 use Rattle.bitmap.specs.Lists.{retable}
-use Rattle.bitmap.specs.Bits.{pack, wordsFor, written}
+use Rattle.bitmap.specs.Bits.{wordsFor, written}
 use Rattle.bitmap.proofs.Tables.{retable-ext}
-use Rattle.logical_nulls.specs.Mask.{LogicalNulls, presentOn, answerOn}
+use Rattle.logical_nulls.specs.Mask.{presentOn, answerOn}
 use Rattle.logical_nulls.specs.Fields.{Field}
 use Rattle.logical_nulls.specs.Steps.{wordOf, wordsOf, skipOneAt, skipWithoutAt, skipFullyAt, stepAt}
 use Rattle.logical_nulls.proofs.Marking.{word-ext, word-none}

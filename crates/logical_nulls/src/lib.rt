@@ -1,12 +1,12 @@
 // The null mask of a union array: its route, its strategies, its words.
 pub mod cost;
+pub mod mask;
+pub mod named;
 pub mod route;
 pub mod states;
 pub mod steps;
 pub mod table;
 pub mod words;
-pub mod mask;
-pub mod named;
 
 // The processor setting: what gathering costs, against one selection mask a chunk.
 pub struct Processor {

@@ -35,14 +35,7 @@ fn sparse_route(gather: usize, n: usize, some: usize, full: usize) -> u8
 }
 
 // The route for n fields, the first of which has a mask or not.
-fn route_by(
-    layout: Layout,
-    n: usize,
-    masked: bool,
-    some: usize,
-    full: usize,
-    gather: usize,
-) -> u8
+fn route_by(layout: Layout, n: usize, masked: bool, some: usize, full: usize, gather: usize) -> u8
     requires { ⌜ full ≤ n ⌝ }
     ensures { λ r. ⌜ r ≡ routeBy layout n masked some full gather ⌝ }
 {

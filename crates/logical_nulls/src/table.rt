@@ -1,13 +1,14 @@
 // Gather: a table with one entry to each type id, read as an unsigned byte, and a bit looked up for each slot.
 ghost use mathlib.Core.Path.{_≡_};
 ghost use mathlib.Core.Bool.{true};
-ghost use Prim.Native.Nat.{ℕ, _+_, _*_, _<_, _≤_};
+ghost use Prim.Native.Nat.{ℕ, _+_, _^_, _<_, _≤_};
 ghost use lib.Dec.{T};
 ghost use lib.ListN.{length, getD};
 ghost use lib.IntN.{pos};
 ghost use lib.Signed.{nonNeg};
 ghost use Rattle.logical_nulls.specs.Fields.{noField, inList};
-ghost use Rattle.logical_nulls.specs.Steps.{wordOf};
+ghost use Rattle.bitmap.specs.Bits.{wordsFor};
+ghost use Rattle.logical_nulls.specs.Steps.{wordsOf};
 ghost use Rattle.logical_nulls.specs.Table.{tableOf, childSlot, gatheredAt, Reach, Gathers};
 use crate::Field;
 use crate::Fields;
@@ -54,8 +55,9 @@ fn child_slot(layout: Layout, offsets: &[i32], at: usize, i: usize) -> usize
     }
 }
 
-// Word k of the null mask, each slot's bit looked up by itself.
-pub fn gather_word(
+// The mask by gathering: each slot's bit is looked up by itself. Later words keep what they have. Both loops stand here, since a call
+// for each word would copy the table.
+pub fn write_gathered(
     table: [Field; 256],
     masks: &[u64],
     ids: &[i8],
@@ -64,24 +66,30 @@ pub fn gather_word(
     offsets: &[i32],
     at: usize,
     len: usize,
-    k: usize,
-) -> u64
-    requires { ⌜ Gathers table (now masks) (now ids) start layout (now offsets) at len × (64 * k < len) ⌝ }
-    ensures { λ r. ⌜ r ≡ wordOf len (gatheredAt table (now (masks .entry)) (now (ids .entry)) start (childSlot layout (now (offsets .entry)) at)) k ⌝ }
+    out: &mut [u64],
+)
+    requires { ⌜ (len < 2 ^ 63) × (wordsFor len ≤ length (now out)) ⌝ }
+    requires { ⌜ Gathers table (now masks) (now ids) start layout (now offsets) at len ⌝ }
+    ensures { λ _. ⌜ now (out .exit) ≡ wordsOf len (gatheredAt table (now (masks .entry)) (now (ids .entry)) start (childSlot layout (now (offsets .entry)) at)) (now (out .entry)) ⌝ }
 {
-    let done = 64 * k;
-    let n = bitmap::span(len - done);
-    let mut x: u64 = 0;
-    let mut j: usize = 0;
-    while j < n {
-        let i = done + j;
-        let t = ids[start + i] as usize;
-        let e = table[t];
-        let p = child_slot(layout, offsets, at, i);
-        if presence::is_present(states::as_column(e), masks, p) {
-            x |= 1u64 << j;
+    let words = bitmap::words_for(len);
+    let mut k: usize = 0;
+    while k < words {
+        let done = 64 * k;
+        let n = bitmap::span(len - done);
+        let mut x: u64 = 0;
+        let mut j: usize = 0;
+        while j < n {
+            let i = done + j;
+            let t = ids[start + i] as usize;
+            let e = table[t];
+            let p = child_slot(layout, offsets, at, i);
+            if presence::is_present(states::as_column(e), masks, p) {
+                x |= 1u64 << j;
+            }
+            j += 1;
         }
-        j += 1;
+        out[k] = x;
+        k += 1;
     }
-    x
 }

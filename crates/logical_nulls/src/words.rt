@@ -10,9 +10,7 @@ ghost use Rattle.union_array.specs.Slots.{slotNull};
 ghost use Rattle.logical_nulls.specs.Mask.{masked, maskedBy, presentOn, answerOn};
 ghost use Rattle.logical_nulls.specs.Fields.{inList};
 ghost use Rattle.logical_nulls.specs.Steps.{wordOf, wordsOf, stepAt, Chunk};
-ghost use Rattle.logical_nulls.specs.Table.{tableOf, childSlot, gatheredAt, Gathers};
 ghost use Rattle.logical_nulls.specs.Ready.{reads, Ready};
-use crate::Field;
 use crate::Fields;
 use crate::LogicalNulls;
 use crate::steps;
@@ -52,31 +50,6 @@ fn write_steps(
     let mut k: usize = 0;
     while k < n {
         let x = step(route, fs, masks, ids, start, len, k);
-        out[k] = x;
-        k += 1;
-    }
-}
-
-// The mask by gathering. Later words keep what they have.
-fn write_gathered(
-    table: [Field; 256],
-    masks: &[u64],
-    ids: &[i8],
-    start: usize,
-    layout: Layout,
-    offsets: &[i32],
-    at: usize,
-    len: usize,
-    out: &mut [u64],
-)
-    requires { ⌜ (len < 2 ^ 63) × (wordsFor len ≤ length (now out)) ⌝ }
-    requires { ⌜ Gathers table (now masks) (now ids) start layout (now offsets) at len ⌝ }
-    ensures { λ _. ⌜ now (out .exit) ≡ wordsOf len (gatheredAt table (now (masks .entry)) (now (ids .entry)) start (childSlot layout (now (offsets .entry)) at)) (now (out .entry)) ⌝ }
-{
-    let n = bitmap::words_for(len);
-    let mut k: usize = 0;
-    while k < n {
-        let x = table::gather_word(table, masks, ids, start, layout, offsets, at, len, k);
         out[k] = x;
         k += 1;
     }
@@ -162,7 +135,7 @@ fn write_mask(
     }
     let table = table::fill(fs);
     let at = array.offsets_start;
-    write_gathered(table, masks, ids, start, layout, offsets, at, len, out);
+    table::write_gathered(table, masks, ids, start, layout, offsets, at, len, out);
 }
 
 // The null mask of an accepted array, written, and its answer.

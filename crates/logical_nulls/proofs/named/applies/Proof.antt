@@ -1,4 +1,4 @@
-use mathlib.Core.Path.{_≡_, sym, ap, _∙_}
+use mathlib.Core.Path.{sym, ap, _∙_}
 use Rattle.logical_nulls.specs.Mask.{SparseStrategy}
 use Rattle.logical_nulls.specs.Ready.{mayRunOn}
 use Rattle.logical_nulls.proofs.Calls.{one-sparse, one-dense}

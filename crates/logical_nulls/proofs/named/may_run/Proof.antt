@@ -1,4 +1,4 @@
-use mathlib.Core.Path.{_≡_, _∙_}
+use mathlib.Core.Path.{_∙_}
 use Rattle.logical_nulls.proofs.Calls.{too-small, large-enough}
 use borrow.Author.Needs.{needs}
 use Rattle.logical_nulls.proofs.named.may_run.Statement.{statement}

@@ -1,9 +1,8 @@
 use borrow.Author.Tests.{not-true, not-false}
-use mathlib.Core.Path.{_≡_, sym, ap, ap₂, _∙_}
-use Prim.Native.Nat.{ℕ, _≤_, _<_, _^_}
+use mathlib.Core.Path.{sym, ap, _∙_}
+use Prim.Native.Nat.{ℕ}
 use native.Mathlib.Omega.{arith}
-use lib.ListN.{length, length-map}
-use Rattle.union_array.specs.Buffers.{Buffers, buffersOf, onlyMasks}
+use Rattle.union_array.specs.Buffers.{Buffers, buffersOf}
 use Rattle.logical_nulls.specs.Mask.{maskedBy}
 use Rattle.logical_nulls.proofs.Calls.{too-few, enough, strategy-unchecked, strategy-14, strategy-13, strategy-taken, masked-same, fields-ok, counted-ok, may-run, strategy-ready}
 use borrow.Author.Needs.{needs}

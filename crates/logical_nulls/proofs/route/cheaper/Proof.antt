@@ -2,18 +2,13 @@ use Rattle.logical_nulls.proofs.Routes.{less, not-less}
 use borrow.Author.Needs.{needs}
 use Rattle.logical_nulls.proofs.route.cheaper.Statement.{statement}
 use Rattle.logical_nulls.proofs.route.cheaper.Tie as tie
-use Rattle.logical_nulls.proofs.route.cheaper.Reads as reads
-use Rattle.logical_nulls.proofs.route.cheaper.Lts as lts
 
--- src/route.rt:15:13
 returns : tie.Need-returns
 returns c = let a = c .before .before .before .args in less (a .best) (a .applies) (a .cost) (a .route) (c .before .before .if1 .taken) (c .if2 .taken)
 
--- src/route.rt:10:1
 returns-2 : tie.Need-returns-2
 returns-2 c = let a = c .before .before .before .args in not-less (a .best) (a .applies) (a .cost) (a .route) (c .before .before .if1 .taken) (c .if2 .left)
 
--- src/route.rt:10:1
 returns-3 : tie.Need-returns-3
 returns-3 c = search needs
 

@@ -1,5 +1,4 @@
-use mathlib.Core.Path.{_≡_, sym, ap, _∙_}
-use Prim.Native.Nat.{ℕ}
+use mathlib.Core.Path.{sym, ap, _∙_}
 use Rattle.union_array.specs.declared.Layout.{Layout}
 use Rattle.union_array.specs.Types.{byLayout}
 use Rattle.logical_nulls.specs.Route.{sparseRoute}
@@ -7,39 +6,28 @@ use Rattle.logical_nulls.proofs.Routes.{one-field, no-nulls, all-null, 
 use borrow.Author.Needs.{needs}
 use Rattle.logical_nulls.proofs.route.route_by.Statement.{statement}
 use Rattle.logical_nulls.proofs.route.route_by.Tie as tie
-use Rattle.logical_nulls.proofs.route.route_by.Reads as reads
-use Rattle.logical_nulls.proofs.route.route_by.Lts as lts
-use Rattle.logical_nulls.proofs.route.sparse_route.Reads as sparse-route-reads
 
--- src/route.rt:49:16
 cast-result : tie.Need-cast-result
 cast-result c = search needs
 
--- src/route.rt:49:9
 returns : tie.Need-returns
 returns c = let a = c .before .args in one-field (a .layout) (a .n) (a .masked) (a .some) (a .full) (a .gather) (c .if1 .taken)
 
--- src/route.rt:52:9
 returns-2 : tie.Need-returns-2
 returns-2 c = let a = c .before .before .args in no-nulls (a .layout) (a .n) (a .masked) (a .some) (a .full) (a .gather) (c .before .if1 .left) (c .if2 .taken)
 
--- src/route.rt:55:9
 returns-3 : tie.Need-returns-3
 returns-3 c = let a = c .before .before .before .args in all-null (a .layout) (a .n) (a .masked) (a .some) (a .full) (a .gather) (c .before .before .if1 .left) (c .before .if2 .left) (c .if3 .taken)
 
--- src/route.rt:58:27
 enum-told : tie.Need-enum-told
 enum-told c = search needs
 
--- src/route.rt:58:27
 sparse-route-requires : tie.Need-sparse-route-requires
 sparse-route-requires c κs = search needs
 
--- src/route.rt:59:26
 enum-told-2 : tie.Need-enum-told-2
 enum-told-2 c = search needs
 
--- src/route.rt:37:1
 returns-4 : tie.Need-returns-4
 returns-4 c =
     let a = c .before .before .before .before .before .before .args in
@@ -47,7 +35,6 @@ returns-4 c =
     ∙ ap (λ (l : Layout). byLayout l (sparseRoute (a .gather) (a .n) (a .some) (a .full)) 3) (sym (c .before .enum-told .given .1))
     ∙ by-strategy (a .layout) (a .n) (a .masked) (a .some) (a .full) (a .gather) (c .before .before .before .before .before .if1 .left) (c .before .before .before .before .if2 .left) (c .before .before .before .if3 .left)
 
--- src/route.rt:37:1
 returns-5 : tie.Need-returns-5
 returns-5 c =
     let a = c .before .before .before .before .before .args in

@@ -2,7 +2,7 @@
 use borrow.Author.Needs.{needs}
 use mathlib.Core.Path.{_≡_, sym, ap, ap₂, _∙_}
 use mathlib.Core.List.{List}
-use Prim.Native.Nat.{ℕ, _+_, _-_, _≤_, _<_}
+use Prim.Native.Nat.{ℕ, _-_, _≤_, _<_}
 use native.Mathlib.Omega.{arith}
 use lib.Dec.{ltb}
 use lib.IntN.{ℤ}
@@ -10,19 +10,16 @@ use lib.ListN.{length, getD, set, take, length-map}
 use mir.Syntax.{w8}
 use mir.Facts.{toZ-ofZ}
 use Rattle.bitmap.specs.Lists.{retable}
-use Rattle.bitmap.proofs.Tables.{retable-none, retable-store}
-use Rattle.union_array.specs.declared.Column.{Column}
+use Rattle.bitmap.proofs.Tables.{retable-store}
 use Rattle.union_array.specs.Types.{noColumn}
 use Rattle.union_array.specs.Buffers.{onlyMasks}
 use Rattle.union_array.specs.Questions.{maskIn}
-use Rattle.logical_nulls.specs.Route.{howMany, hasNull, fullyNull, withNulls, fullyNulls}
-use Rattle.logical_nulls.specs.Fields.{Field, Fields, fieldAt, noFields, stateOf}
-use Rattle.logical_nulls.proofs.FieldStates.{all-at, many-le, many-more, has-null, is-full, byte-le, none-yet, no-fields, fields-length, with-nulls, fully-nulls}
+use Rattle.union_array.proofs.Columns.{all-at}
+use Rattle.logical_nulls.specs.Route.{howMany, hasNull, fullyNull, withNulls}
+use Rattle.logical_nulls.specs.Fields.{Field, fieldAt, noFields}
+use Rattle.logical_nulls.proofs.FieldStates.{many-le, many-more, has-null, is-full, byte-le, none-yet, no-fields, fields-length, with-nulls, fully-nulls}
 use Rattle.logical_nulls.proofs.states.fields_of.Statement.{statement}
 use Rattle.logical_nulls.proofs.states.fields_of.Tie as tie
-use Rattle.logical_nulls.proofs.states.fields_of.Reads as reads
-use Rattle.logical_nulls.proofs.states.fields_of.Lts as lts
-use Rattle.logical_nulls.proofs.states.state_of.Reads as state-of-reads
 
 abbrev Inv-loop : tie.InvT-loop
 Inv-loop masks array list₀ count some₀ full₀ q₀ list some full q =
@@ -32,64 +29,51 @@ Inv-loop masks array list₀ count some₀ full₀ q₀ list some full q =
 abbrev μ-loop : tie.MeasureT-loop
 μ-loop masks array list₀ count some₀ full₀ q₀ list some full q = count - q
 
--- src/states.rt:51:5
 loop-holds : tie.Need-loop-holds Inv-loop μ-loop
 loop-holds c = let a = c .before .args in (omega arith, none-yet (onlyMasks (a .masks .now)) (a .t1 .columns), no-fields (hasNull (onlyMasks (a .masks .now))) (a .t1 .columns), no-fields (fullyNull (onlyMasks (a .masks .now))) (a .t1 .columns))
 
--- src/states.rt:52:17
 mul-c : tie.Need-mul-c Inv-loop μ-loop
 mul-c c = omega (arith, c .before .before .before .pre .0)
 
--- src/states.rt:52:17
 element-copy-out-c : tie.Need-element-copy-out-c Inv-loop μ-loop
 element-copy-out-c c = omega (arith, c .before .before .before .pre .0)
 
--- src/states.rt:53:13
 state-of-requires : tie.Need-state-of-requires Inv-loop μ-loop
 state-of-requires c κs =
     let st = c .before .before .before .before in
     let cs = st .args .t1 .columns in
     let full : length cs ≡ 128 = sym (length-map cs _) ∙ st .good .0 .1 .1 .0 .1 .0 .1 in
     let t = c .before .loop-test .taken in
-    all-at (λ x. maskIn x (length (st .args .masks .now))) (st .args .t1 .fields) cs (st .pre .1) (c .before .before .loop .q) t (omega (arith, st .pre .0))
+    all-at (λ x. maskIn x (length (st .args .masks .now))) (st .args .t1 .fields) cs (c .before .before .loop .q) (st .pre .1) t (omega (arith, st .pre .0))
 
--- src/states.rt:54:9
 mul-list : tie.Need-mul-list Inv-loop μ-loop
 mul-list c = omega (arith, c .before .before .before .before .before .before .pre .0)
 
--- src/states.rt:54:9
 array-set-from-list : tie.Need-array-set-from-list Inv-loop μ-loop
 array-set-from-list c = omega (arith, c .before .before .before .before .before .before .pre .0)
 
--- src/states.rt:62:17
 cast-some : tie.Need-cast-some Inv-loop μ-loop
 cast-some c = tt
 
--- src/states.rt:62:9
 add-some : tie.Need-add-some Inv-loop μ-loop
 add-some c =
     let l = c .before .before .before .before .loop in
     omega (arith, byte-le (ltb 0 (c .before .state-of .result)), l .inv .2, many-le (hasNull (onlyMasks (c .before .before .before .before .before .before .args .masks .now))) (l .q) (c .before .before .before .before .before .before .args .t1 .columns), c .before .before .before .before .before .before .pre .0)
 
--- src/states.rt:63:17
 cast-full : tie.Need-cast-full Inv-loop μ-loop
 cast-full c = tt
 
--- src/states.rt:63:9
 add-full : tie.Need-add-full Inv-loop μ-loop
 add-full c =
     let l = c .before .before .before .before .loop in
     omega (arith, byte-le (ltb 1 (c .before .state-of .result)), l .inv .3, many-le (fullyNull (onlyMasks (c .before .before .before .before .before .before .args .masks .now))) (l .q) (c .before .before .before .before .before .before .args .t1 .columns), c .before .before .before .before .before .before .pre .0)
 
--- src/states.rt:64:9
 add-q : tie.Need-add-q Inv-loop μ-loop
 add-q c = omega (arith, c .before .before .before .before .before .before .pre .0)
 
--- src/states.rt:51:5
 loop-less : tie.Need-loop-less Inv-loop μ-loop
 loop-less c = search needs
 
--- src/states.rt:51:5
 loop-again : tie.Need-loop-again Inv-loop μ-loop
 loop-again c =
     let st = c .before .before .before .before .before .before in
@@ -111,7 +95,6 @@ loop-again c =
       many-more (fullyNull m) cs (l .q) (l .full) r 1 h (l .inv .3) (ap (ltb 1) e ∙ is-full m x),
     )
 
--- src/states.rt:34:1
 returns : tie.Need-returns Inv-loop μ-loop
 returns c =
     let a = c .before .before .before .args in

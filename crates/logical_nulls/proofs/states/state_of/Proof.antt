@@ -1,35 +1,26 @@
 use Prim.Native.Nat.{ℕ}
 use Rattle.bitmap.specs.Bits.{isFullyNull}
-use mathlib.Core.Path.{_≡_, sym, ap, _∙_}
+use mathlib.Core.Path.{sym, ap, _∙_}
 use Rattle.union_array.specs.Buffers.{onlyMasks}
 use Rattle.logical_nulls.proofs.FieldStates.{state-none, state-full, state-some}
 use borrow.Author.Needs.{needs}
 use Rattle.logical_nulls.proofs.states.state_of.Statement.{statement}
 use Rattle.logical_nulls.proofs.states.state_of.Tie as tie
-use Rattle.logical_nulls.proofs.states.state_of.Reads as reads
-use Rattle.logical_nulls.proofs.states.state_of.Lts as lts
-use Rattle.bitmap.proofs.is_fully_null.Reads as is-fully-null-reads
-use Rattle.union_array.proofs.presence.null_count.Reads as null-count-reads
 
--- src/states.rt:22:9
 null-count-requires : tie.Need-null-count-requires
 null-count-requires c κs = search needs
 
--- src/states.rt:25:9
 returns : tie.Need-returns
 returns c =
     let a = c .before .before .before .args in
     state-none (onlyMasks (a .masks .now)) (a .c) (sym (c .before .null-count .ensures) ∙ c .if1 .taken)
 
--- src/states.rt:27:37
 cast-is-fully-null : tie.Need-cast-is-fully-null
 cast-is-fully-null c = search needs
 
--- src/states.rt:27:8
 is-fully-null-requires : tie.Need-is-fully-null-requires
 is-fully-null-requires c κs = search needs
 
--- src/states.rt:28:9
 returns-2 : tie.Need-returns-2
 returns-2 c =
     let a = c .before .before .before .before .before .before .args in
@@ -37,7 +28,6 @@ returns-2 c =
     state-full (onlyMasks (a .masks .now)) (a .c) (λ z. c .before .before .before .if1 .left (e ∙ z))
     (ap (λ (n : ℕ). isFullyNull n (a .c .slots)) (sym e) ∙ sym (c .before .is-fully-null .ensures) ∙ c .if2 .taken)
 
--- src/states.rt:18:1
 returns-3 : tie.Need-returns-3
 returns-3 c =
     let a = c .before .before .before .before .before .before .args in

@@ -1,12 +1,11 @@
 -- The loop has marked the slots of the fields from `from` to q. Assumes nothing.
 use borrow.Author.Needs.{needs}
-use mathlib.Core.Path.{_≡_, refl, sym, ap, ap₂, _∙_, subst}
+use mathlib.Core.Path.{_≡_, sym, ap, ap₂, _∙_, subst}
 use mathlib.Core.Bool.{true}
 use mathlib.Core.Logic.{⊎-elim}
 use Prim.Native.Nat.{ℕ, _+_, _-_, _*_, _≤_, _<_}
 use native.Mathlib.Omega.{arith}
 use lib.Bits.{bitAnd, bitOr}
-use lib.IntN.{ℤ}
 use lib.ListN.{getD, length, length-map}
 use mir.Syntax.{w8}
 use mir.Facts.{toZ-ofZ}
@@ -16,7 +15,6 @@ use Rattle.union_array.specs.Buffers.{onlyMasks}
 use Rattle.union_array.specs.Slots.{presenceChunk}
 use Rattle.union_array.specs.Questions.{maskIn}
 use Rattle.logical_nulls.specs.Fields.{noField}
-use Rattle.logical_nulls.specs.Steps.{Marks}
 use Rattle.logical_nulls.proofs.Marking.{selectedTo, presentTo, selected-none, present-none, selected-more, present-more, selected-same, present-same, word-selection}
 use Rattle.logical_nulls.proofs.steps.mark.Statement.{statement}
 use Rattle.logical_nulls.proofs.steps.mark.Tie as tie

@@ -1,19 +1,14 @@
-use mathlib.Core.Path.{_≡_, ap, _∙_}
+use mathlib.Core.Path.{ap, _∙_}
 use Rattle.logical_nulls.specs.Fields.{inList}
 use Rattle.logical_nulls.specs.Steps.{Marks}
 use Rattle.logical_nulls.proofs.Marking.{fully-word}
 use borrow.Author.Needs.{needs}
 use Rattle.logical_nulls.proofs.steps.skip_fully_null.Statement.{statement}
 use Rattle.logical_nulls.proofs.steps.skip_fully_null.Tie as tie
-use Rattle.logical_nulls.proofs.steps.skip_fully_null.Reads as reads
-use Rattle.logical_nulls.proofs.steps.skip_fully_null.Lts as lts
-use Rattle.logical_nulls.proofs.steps.mark.Reads as mark-reads
 
--- src/steps.rt:104:9
 mark-requires : tie.Need-mark-requires
 mark-requires c κs = search needs
 
--- src/steps.rt:93:1
 returns : tie.Need-returns
 returns c =
     let a = c .before .before .args in

@@ -14,25 +14,16 @@ use Rattle.logical_nulls.proofs.Marking.{one-word}
 use borrow.Author.Needs.{needs}
 use Rattle.logical_nulls.proofs.steps.skip_one.Statement.{statement}
 use Rattle.logical_nulls.proofs.steps.skip_one.Tie as tie
-use Rattle.logical_nulls.proofs.steps.skip_one.Reads as reads
-use Rattle.logical_nulls.proofs.steps.skip_one.Lts as lts
-use Rattle.logical_nulls.proofs.states.as_column.Reads as as-column-reads
-use Rattle.logical_nulls.proofs.steps.mark.Reads as mark-reads
-use Rattle.union_array.proofs.presence.presence_chunk.Reads as presence-chunk-reads
 
--- src/steps.rt:70:9
 mark-requires : tie.Need-mark-requires
 mark-requires c κs = search needs
 
--- src/steps.rt:71:13
 element-copy-out-f : tie.Need-element-copy-out-f
 element-copy-out-f c = search needs
 
--- src/steps.rt:72:9
 as-column-requires : tie.Need-as-column-requires
 as-column-requires c κs = search needs
 
--- src/steps.rt:73:32
 presence-chunk-requires : tie.Need-presence-chunk-requires
 presence-chunk-requires c κs =
     let p = c .before .before .before .before .before .pre in
@@ -43,7 +34,6 @@ presence-chunk-requires c κs =
       subst (λ (x : Column). maskIn x (length (c .before .before .before .before .before .args .masks .now)) ≡ true) (sym e) (h .0),
     )
 
--- src/steps.rt:59:1
 returns : tie.Need-returns
 returns c =
     let a = c .before .before .before .before .before .before .before .args in

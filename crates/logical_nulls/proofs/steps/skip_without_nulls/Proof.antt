@@ -1,5 +1,5 @@
-use mathlib.Core.Path.{_≡_, ap, _∙_}
-use Prim.Native.Nat.{ℕ, _-_, _%_, _^_}
+use mathlib.Core.Path.{ap, _∙_}
+use Prim.Native.Nat.{_-_, _%_, _^_}
 use lib.Bits.{bitOr}
 use Rattle.logical_nulls.specs.Fields.{inList}
 use Rattle.logical_nulls.specs.Steps.{Marks}
@@ -7,33 +7,22 @@ use Rattle.logical_nulls.proofs.Marking.{without-word}
 use borrow.Author.Needs.{needs}
 use Rattle.logical_nulls.proofs.steps.skip_without_nulls.Statement.{statement}
 use Rattle.logical_nulls.proofs.steps.skip_without_nulls.Tie as tie
-use Rattle.logical_nulls.proofs.steps.skip_without_nulls.Reads as reads
-use Rattle.logical_nulls.proofs.steps.skip_without_nulls.Lts as lts
-use Rattle.bitmap.proofs.low.Reads as low-reads
-use Rattle.bitmap.proofs.span.Reads as span-reads
-use Rattle.logical_nulls.proofs.steps.mark.Reads as mark-reads
 
--- src/steps.rt:88:9
 mark-requires : tie.Need-mark-requires
 mark-requires c κs = search needs
 
--- src/steps.rt:89:61
 mul-span : tie.Need-mul-span
 mul-span c = search needs
 
--- src/steps.rt:89:55
 sub-span : tie.Need-sub-span
 sub-span c = search needs
 
--- src/steps.rt:89:42
 span-requires : tie.Need-span-requires
 span-requires c κs = search needs
 
--- src/steps.rt:89:5
 low-requires : tie.Need-low-requires
 low-requires c κs = search needs
 
--- src/steps.rt:77:1
 returns : tie.Need-returns
 returns c =
     let a = c .before .before .before .before .before .before .args in

@@ -1,30 +1,22 @@
 use borrow.Author.Needs.{needs}
 use Rattle.logical_nulls.proofs.steps.takes.Statement.{statement}
 use Rattle.logical_nulls.proofs.steps.takes.Tie as tie
-use Rattle.logical_nulls.proofs.steps.takes.Reads as reads
-use Rattle.logical_nulls.proofs.steps.takes.Lts as lts
 
--- src/steps.rt:19:23
 enum-told : tie.Need-enum-told
 enum-told c = search needs
 
--- src/steps.rt:20:29
 enum-told-2 : tie.Need-enum-told-2
 enum-told-2 c = search needs
 
--- src/steps.rt:21:27
 enum-told-3 : tie.Need-enum-told-3
 enum-told-3 c = search needs
 
--- src/steps.rt:15:1
 returns : tie.Need-returns
 returns c = search needs
 
--- src/steps.rt:15:1
 returns-2 : tie.Need-returns-2
 returns-2 c = rw (c .enum-told2 .given .1)
 
--- src/steps.rt:15:1
 returns-3 : tie.Need-returns-3
 returns-3 c = rw (c .enum-told3 .given .1)
 

@@ -3,7 +3,7 @@ use borrow.Author.Needs.{needs}
 use mathlib.Core.Path.{_≡_, sym, ap, ap₂, _∙_}
 use mathlib.Core.List.{List}
 use mathlib.Core.Logic.{⊎-elim}
-use Prim.Native.Nat.{ℕ, _+_, _-_, _≤_, _<_}
+use Prim.Native.Nat.{ℕ, _-_, _≤_, _<_}
 use native.Mathlib.Omega.{arith}
 use lib.ListN.{length, getD, take, set, length-map}
 use lib.IntN.{ℤ, natAbs}
@@ -13,8 +13,6 @@ use Rattle.logical_nulls.proofs.Casts.{id-is, id-at, id-casts}
 use Rattle.logical_nulls.proofs.Entries.{table-none, table-yes, table-no}
 use Rattle.logical_nulls.proofs.table.fill.Statement.{statement}
 use Rattle.logical_nulls.proofs.table.fill.Tie as tie
-use Rattle.logical_nulls.proofs.table.fill.Reads as reads
-use Rattle.logical_nulls.proofs.table.fill.Lts as lts
 
 abbrev Inv-loop : tie.InvT-loop
 Inv-loop fs table₀ used q₀ table q = (q ≤ used) × (table ≡ tableOf (take q (fs .list)))
@@ -22,42 +20,33 @@ Inv-loop fs table₀ used q₀ table q = (q ≤ used) × (table ≡ tableOf (tak
 abbrev μ-loop : tie.MeasureT-loop
 μ-loop fs table₀ used q₀ table q = used - q
 
--- src/table.rt:35:5
 loop-holds : tie.Need-loop-holds Inv-loop μ-loop
 loop-holds c = (omega arith, table-none (c .args .t1 .list))
 
--- src/table.rt:36:17
 mul-f : tie.Need-mul-f Inv-loop μ-loop
 mul-f c = omega arith
 
--- src/table.rt:36:17
 element-copy-out-f : tie.Need-element-copy-out-f Inv-loop μ-loop
 element-copy-out-f c = omega arith
 
--- src/table.rt:38:22
 cast-at : tie.Need-cast-at Inv-loop μ-loop
 cast-at c =
     let st = c .before .before .before .before .before .before .before in
     let q = c .before .before .before .before .before .before .loop .q in
     id-casts (getD (st .args .t1 .list) q noField .id) (c .struct-told .given .1 .1 .1 .0 .1) (st .pre .1 q (c .before .before .before .before .before .loop-test .taken))
 
--- src/table.rt:39:13
 mul-table : tie.Need-mul-table Inv-loop μ-loop
 mul-table c = omega (arith, id-at (getD (c .before .before .before .before .before .before .before .args .t1 .list) (c .before .before .before .before .before .before .loop .q) noField .id) (c .struct-told .given .1 .1 .1 .0 .1))
 
--- src/table.rt:39:13
 array-set-from-table : tie.Need-array-set-from-table Inv-loop μ-loop
 array-set-from-table c = omega (arith, id-at (getD (c .before .before .before .before .before .before .before .args .t1 .list) (c .before .before .before .before .before .before .loop .q) noField .id) (c .struct-told .given .1 .1 .1 .0 .1))
 
--- src/table.rt:41:9
 add-q : tie.Need-add-q Inv-loop μ-loop
 add-q c = omega arith
 
--- src/table.rt:35:5
 loop-less : tie.Need-loop-less Inv-loop μ-loop
 loop-less c = search needs
 
--- src/table.rt:35:5
 loop-again : tie.Need-loop-again Inv-loop μ-loop
 loop-again c =
     let st = c .before .before .before .before .before in
@@ -73,7 +62,6 @@ loop-again c =
           (c .if1 .came),
     )
 
--- src/table.rt:19:1
 returns : tie.Need-returns Inv-loop μ-loop
 returns c =
     let fs = c .before .before .args .t1 in

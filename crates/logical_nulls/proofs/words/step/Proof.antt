@@ -1,4 +1,4 @@
-use mathlib.Core.Path.{_≡_, _∙_}
+use mathlib.Core.Path.{_∙_}
 use Rattle.logical_nulls.specs.Fields.{inList}
 use Rattle.logical_nulls.proofs.Writing.{step-4, step-5, step-6}
 use borrow.Author.Needs.{needs}

@@ -1,7 +1,6 @@
 -- What each way writes is the null mask. Assumes nothing.
-use mathlib.Core.Path.{_≡_, sym, ap, _∙_}
+use mathlib.Core.Path.{_≡_, sym, _∙_}
 use mathlib.Core.Bool.{not}
-use Prim.Native.Nat.{ℕ}
 use lib.Dec.{eqb}
 use lib.ListN.{length, length-map}
 use Rattle.logical_nulls.proofs.Masks.{not-sparse, short, nulls-alone, stepped, steps-on, some-fields, few-fields, plain-ids, gathers-on, gathered}

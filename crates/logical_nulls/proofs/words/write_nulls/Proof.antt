@@ -3,13 +3,13 @@ use borrow.Author.Needs.{needs}
 use mathlib.Core.Path.{_≡_, sym, ap, ap₂, _∙_}
 use mathlib.Core.Bool.{Bool, false}
 use mathlib.Core.List.{List}
-use Prim.Native.Nat.{ℕ, _+_, _-_, _*_, _≤_, _<_}
+use Prim.Native.Nat.{ℕ, _-_, _≤_}
 use native.Mathlib.Omega.{arith}
 use lib.ListN.{length, set}
 use Rattle.bitmap.specs.Lists.{retable}
 use Rattle.bitmap.proofs.Tables.{retable-none, retable-store, retable-length}
 use Rattle.logical_nulls.specs.Steps.{wordOf}
-use Rattle.logical_nulls.proofs.Writing.{word-starts, words-done, null-word}
+use Rattle.logical_nulls.proofs.Writing.{words-done, null-word}
 use Rattle.logical_nulls.proofs.words.write_nulls.Statement.{statement}
 use Rattle.logical_nulls.proofs.words.write_nulls.Tie as tie
 

@@ -1,0 +1,65 @@
+-- Appends, null masks and shown parts at the boundary. Assumes nothing.
+use mathlib.Core.Path.{_≡_, refl, sym, ap, _∙_}
+use mathlib.Core.Bool.{Bool, true, false, cond, _&&_}
+use mathlib.Core.Option.{Option}
+use mathlib.Core.List.{List}
+use Prim.Native.Nat.{ℕ, zero, suc, _<_, _≤_}
+use lib.Dec.{ltb}
+use borrow.Author.Tests.{lt-ltb, le-ltb}
+use Rattle.union_array.specs.declared.Kind.{Kind}
+use Rattle.union_array.specs.declared.UnionArray.{UnionArray}
+use Rattle.union_array.specs.Buffers.{Buffers}
+use Rattle.union_array.specs.Refusal.{ifYes}
+use Rattle.union_builder.specs.declared.Appended.{Appended}
+use Rattle.union_builder.specs.declared.UnionBuilder.{UnionBuilder}
+use Rattle.union_builder.specs.Append.{AppendOutcome, outcome, appendWith}
+use Rattle.union_ffi.specs.Numbers.{kindFrom, badNumber}
+use Rattle.logical_nulls.specs.declared.LogicalNulls.{LogicalNulls}
+use Rattle.logical_nulls.specs.declared.SparseStrategy.{SparseStrategy}
+use Rattle.logical_nulls.specs.Mask.{Masked, masked, logicalNullsOf, strategyOf}
+use Rattle.union_ffi.specs.Arrays.{CArray, CPart, arrayFrom, isArray, partOf}
+use Rattle.union_ffi.specs.Nulls.{CNulls, CMasked, strategyFrom, isStrategy, nullsTo, cMasked, maskedTo, cLogicalNulls, cStrategy}
+use Rattle.union_ffi.specs.Builders.{CBuilder, COutcome, builderFrom, builderTo, isBuilder, built, cOutcome, outcomeTo, cAppendWith}
+
+pub part-refused : (a : UnionArray) (n : ℕ) → (n ≡ 0 → ⊥) → _≡_ {A = CPart} (record { start = 0; count = 0; refusal = n }) (partOf a n)
+part-refused a zero h = absurd (h refl)
+part-refused a (suc n) h = refl
+
+module _ (b : CBuilder) (m : Buffers) (name : List ℕ) (kind : ℕ) (v : Option ℕ) where
+  pub append-bad : isBuilder b ≡ false → cOutcome (built b badNumber) m ≡ cAppendWith b m name kind v
+  unfolding cAppendWith
+  append-bad e = rw e
+
+  pub append-kind : isBuilder b ≡ true → 10 ≤ kind → cOutcome (built b badNumber) m ≡ cAppendWith b m name kind v
+  unfolding cAppendWith
+  append-kind e h = rw (e, le-ltb kind 10 h)
+
+  pub append-good : isBuilder b ≡ true → kind < 10 → (u : UnionBuilder) → u ≡ builderFrom b → (k : Kind) → k ≡ kindFrom kind → (r : Appended) (after : Buffers)
+      → outcome r after ≡ appendWith u m name k v → (w : CBuilder) → w ≡ builderTo (r .builder) → cOutcome (built w (r .refusal)) after ≡ cAppendWith b m name kind v
+  unfolding cAppendWith
+  append-good e h u eu k ek r after o w ew =
+      rw (e, lt-ltb kind 10 h, ew) (ap outcomeTo (rw (eu, ek) at o))
+
+module _ (a : CArray) (m : Buffers) (s : ℕ) (out : List ℕ) where
+  pub strategy-bad : isArray a ≡ false → cMasked (record { nulls = 0; refusal = badNumber; route = 0; present = 0 }) out ≡ cStrategy a m s out
+  unfolding cStrategy
+  strategy-bad e = rw e
+
+  pub strategy-none : isArray a ≡ true → isStrategy s ≡ false → cMasked (record { nulls = 0; refusal = badNumber; route = 0; present = 0 }) out ≡ cStrategy a m s out
+  unfolding cStrategy
+  strategy-none e n = rw (e, n)
+
+  pub strategy-good : isArray a ≡ true → isStrategy s ≡ true → (u : UnionArray) → u ≡ arrayFrom a → (k : SparseStrategy) → k ≡ strategyFrom s → (r : LogicalNulls) (after : List ℕ)
+      → masked r after ≡ strategyOf u m k out → (w : CNulls) → w ≡ nullsTo r → cMasked w after ≡ cStrategy a m s out
+  unfolding cStrategy
+  strategy-good e n u eu k ek r after o w ew = rw (e, n, ew) (ap maskedTo (rw (eu, ek) at o))
+
+module _ (a : CArray) (m : Buffers) (cost : ℕ) (out : List ℕ) where
+  pub nulls-bad : isArray a ≡ false → cMasked (record { nulls = 0; refusal = badNumber; route = 0; present = 0 }) out ≡ cLogicalNulls a m cost out
+  unfolding cLogicalNulls
+  nulls-bad e = rw e
+
+  pub nulls-good : isArray a ≡ true → (u : UnionArray) → u ≡ arrayFrom a → (r : LogicalNulls) (after : List ℕ)
+      → masked r after ≡ logicalNullsOf u m cost out → (w : CNulls) → w ≡ nullsTo r → cMasked w after ≡ cLogicalNulls a m cost out
+  unfolding cLogicalNulls
+  nulls-good e u eu r after o w ew = rw (e, ew) (ap maskedTo (rw eu at o))

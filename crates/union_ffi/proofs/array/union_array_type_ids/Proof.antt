@@ -1,0 +1,50 @@
+use mathlib.Core.Path.{_≡_, refl, sym, ap, _∙_}
+use mathlib.Core.Bool.{true, false}
+use borrow.Author.Tests.{not-true, not-false}
+use Rattle.union_array.specs.Buffers.{buffersOf, amountsOf}
+use Rattle.union_array.specs.Questions.{asked}
+use Rattle.union_ffi.specs.Arrays.{isArray, arrayFrom, cTypeIds}
+use Rattle.union_ffi.proofs.Boundary.{part-refused}
+use borrow.Author.Needs.{needs}
+use Rattle.union_ffi.proofs.array.union_array_type_ids.Statement.{statement}
+use Rattle.union_ffi.proofs.array.union_array_type_ids.Tie as tie
+
+is-array-requires : tie.Need-is-array-requires
+is-array-requires c κs = search needs
+
+returns : tie.Need-returns
+unfolding cTypeIds
+returns c =
+    let bad : isArray (c .before .before .before .before .before .args .array) ≡ false = sym (c .before .is-array .ensures) ∙ not-true _ (c .if1 .taken) in
+    rw bad
+
+array-from-requires : tie.Need-array-from-requires
+array-from-requires c κs = search needs
+
+ask-requires : tie.Need-ask-requires
+ask-requires c κs = search needs
+
+returns-2 : tie.Need-returns-2
+unfolding cTypeIds
+returns-2 c =
+    let p = c .before .before .before .before .before .before .before .before .args in
+    let a = p .array in
+    let m = buffersOf (p .type-ids .now) (p .offsets .now) (p .values .now) (p .masks .now) (p .names .now) in
+    let good : isArray a ≡ true = sym (c .before .before .before .before .is-array .ensures) ∙ not-false _ (c .before .before .before .if1 .left) in
+    let e : c .before .ask .result ≡ asked (arrayFrom a) (amountsOf m) = c .before .ask .ensures ∙ ap (λ u. asked u (amountsOf m)) (c .before .before .array-from .ensures) in
+    rw (good, ← e) (part-refused (arrayFrom a) (c .before .ask .result) (c .if2 .taken))
+
+returns-3 : tie.Need-returns-3
+unfolding cTypeIds
+returns-3 c =
+    let p = c .before .before .before .before .before .before .before .before .args in
+    let a = p .array in
+    let m = buffersOf (p .type-ids .now) (p .offsets .now) (p .values .now) (p .masks .now) (p .names .now) in
+    let good : isArray a ≡ true = sym (c .before .before .before .before .is-array .ensures) ∙ not-false _ (c .before .before .before .if1 .left) in
+    let e : c .before .ask .result ≡ asked (arrayFrom a) (amountsOf m) = c .before .ask .ensures ∙ ap (λ u. asked u (amountsOf m)) (c .before .before .array-from .ensures) in
+    rw (good, ← e, c .if2 .left, c .before .before .array-from .ensures)
+
+pub union-array-type-ids-spec : {M : Type 1} → statement M
+union-array-type-ids-spec =
+    tie.close
+    (tie.spec is-array-requires returns array-from-requires ask-requires returns-2 returns-3)

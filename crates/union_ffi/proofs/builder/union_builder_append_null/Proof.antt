@@ -1,0 +1,77 @@
+use mathlib.Core.Path.{_≡_, refl, sym, ap, _∙_}
+use mathlib.Core.Option.{none}
+use native.Mathlib.Omega.{arith}
+use borrow.Author.Tests.{not-true, not-false}
+use Rattle.union_array.specs.Buffers.{buffersOf}
+use Rattle.union_ffi.proofs.Boundary.{append-bad, append-kind, append-good}
+use borrow.Author.Needs.{needs}
+use Rattle.union_ffi.proofs.builder.union_builder_append_null.Statement.{statement}
+use Rattle.union_ffi.proofs.builder.union_builder_append_null.Tie as tie
+
+is-builder-requires : tie.Need-is-builder-requires
+is-builder-requires c κs = search needs
+
+returns : tie.Need-returns
+returns c =
+    let p = c .before .before .before .before .before .before .args in
+    let m = buffersOf (p .type-ids .now) (p .offsets .now) (p .values .now) (p .masks .now) (p .names .now) in
+    append-bad (p .builder) m (p .name .now) (p .kind) none (sym (c .before .is-builder .ensures) ∙ not-true _ (c .if1 .taken))
+
+returns-2 : tie.Need-returns-2
+returns-2 c =
+    let p = c .before .before .before .before .before .before .before .args in
+    let m = buffersOf (p .type-ids .now) (p .offsets .now) (p .values .now) (p .masks .now) (p .names .now) in
+    append-kind (p .builder) m (p .name .now) (p .kind) none (sym (c .before .before .is-builder .ensures) ∙ not-false _ (c .before .if1 .left)) (c .if2 .taken)
+
+builder-from-requires : tie.Need-builder-from-requires
+builder-from-requires c κs = search needs
+
+kind-from-requires : tie.Need-kind-from-requires
+kind-from-requires c κs = search needs
+
+append-null-requires : tie.Need-append-null-requires
+append-null-requires c κs = search needs
+
+builder-to-requires : tie.Need-builder-to-requires
+builder-to-requires c κs = search needs
+
+same-length : tie.Need-same-length
+same-length c = search needs
+
+same-length-2 : tie.Need-same-length-2
+same-length-2 c = search needs
+
+same-length-3 : tie.Need-same-length-3
+same-length-3 c = search needs
+
+same-length-4 : tie.Need-same-length-4
+same-length-4 c = search needs
+
+same-length-5 : tie.Need-same-length-5
+same-length-5 c = search needs
+
+returns-3 : tie.Need-returns-3
+returns-3 c =
+    let p = c .before .before .before .before .before .before .before .before .before .before .before .before .before .before .before .before .before .before .before .before .before .before .before .before .before .args in
+    let m = buffersOf (p .type-ids .now) (p .offsets .now) (p .values .now) (p .masks .now) (p .names .now) in
+    let r = c .before .before .before .before .before .before .before .before .before .before .append-null in
+    append-good (p .builder) m (p .name .now) (p .kind) none (sym (c .before .before .before .before .before .before .before .before .before .before .before .before .before .before .before .before .before .before .before .before .is-builder .ensures) ∙ not-false _ (c .before .before .before .before .before .before .before .before .before .before .before .before .before .before .before .before .before .before .before .if1 .left)) (omega (arith, c .before .before .before .before .before .before .before .before .before .before .before .before .before .before .before .before .before .before .if2 .left))
+    (c .before .before .before .before .before .before .before .before .before .before .before .before .before .before .before .before .before .builder-from .result) (c .before .before .before .before .before .before .before .before .before .before .before .before .before .before .before .before .before .builder-from .ensures) (c .before .before .before .before .before .before .before .before .before .before .before .before .before .before .before .before .kind-from .result) (c .before .before .before .before .before .before .before .before .before .before .before .before .before .before .before .before .kind-from .ensures) (r .result) _ (r .ensures) (c .builder-to .result) (c .builder-to .ensures)
+
+pub union-builder-append-null-spec : {M : Type 1} → statement M
+union-builder-append-null-spec =
+    tie.close
+    (tie.spec
+    is-builder-requires
+    returns
+    returns-2
+    builder-from-requires
+    kind-from-requires
+    append-null-requires
+    builder-to-requires
+    same-length
+    same-length-2
+    same-length-3
+    same-length-4
+    same-length-5
+    returns-3)

@@ -1,0 +1,161 @@
+-- Arrays and their answers as C structs, and each call on an array at the boundary.
+use mathlib.Core.Bool.{Bool, false, _&&_}
+use mathlib.Core.List.{map}
+use Prim.Native.Nat.{ℕ}
+use lib.IntN.{ℤ, pos}
+use lib.ListN.{take, replicate}
+use Rattle.bitmap.specs.Bits.{digit}
+use Rattle.union_array.specs.declared.Column.{Column}
+use Rattle.union_array.specs.declared.UnionArray.{UnionArray}
+use Rattle.union_array.specs.declared.Value.{Value}
+use Rattle.union_array.specs.declared.TypeId.{TypeId}
+use Rattle.union_array.specs.declared.ValueOffset.{ValueOffset}
+use Rattle.union_array.specs.declared.Child.{Child}
+use Rattle.union_array.specs.declared.NamePlace.{NamePlace}
+use Rattle.union_array.specs.declared.TypeNames.{TypeNames}
+use Rattle.union_array.specs.declared.Flag.{Flag}
+use Rattle.union_array.specs.declared.Slice.{Slice}
+use Rattle.union_array.specs.Types.{kindNumber, noColumn, noArray}
+use Rattle.union_array.specs.Buffers.{Buffers, amountsOf}
+use Rattle.union_array.specs.Refusal.{ifYes}
+use Rattle.union_array.specs.Questions.{asked}
+use Rattle.union_array.specs.Lookup.{tryNewOf, noValue, valueOf, typeIdOf, valueOffsetOf, childOf, noName, typeNamesOf, isDenseOf, isNullableOf}
+use Rattle.union_array.specs.Slices.{sliceOf}
+use Rattle.union_ffi.specs.Numbers.{kindFrom, layoutFrom, layoutNumber, isLayout, flagFrom, isCase, each, atBoundary, badNumber}
+pub use Rattle.union_ffi.specs.declared.CColumn.{CColumn}
+pub use Rattle.union_ffi.specs.declared.CArray.{CArray}
+pub use Rattle.union_ffi.specs.declared.CValue.{CValue}
+pub use Rattle.union_ffi.specs.declared.CTypeId.{CTypeId}
+pub use Rattle.union_ffi.specs.declared.CValueOffset.{CValueOffset}
+pub use Rattle.union_ffi.specs.declared.CChild.{CChild}
+pub use Rattle.union_ffi.specs.declared.CNamePlace.{CNamePlace}
+pub use Rattle.union_ffi.specs.declared.CTypeNames.{CTypeNames}
+pub use Rattle.union_ffi.specs.declared.CFlag.{CFlag}
+pub use Rattle.union_ffi.specs.declared.CSlice.{CSlice}
+pub use Rattle.union_ffi.specs.declared.CPart.{CPart}
+
+-- ---- reading
+abbrev pub columnFrom : CColumn → Column
+columnFrom c = record {
+  values = c .values;
+  mask = c .mask;
+  name = c .name;
+  slots = c .slots;
+  bit = c .bit;
+  size = c .size;
+  id = c .id;
+  kind = kindFrom (c .kind);
+  masked = flagFrom (c .masked);
+}
+
+unfoldable pub arrayFrom : CArray → UnionArray
+arrayFrom a = record {
+  columns = map columnFrom (a .columns);
+  fields = a .fields;
+  children = a .children;
+  start = a .start;
+  count = a .count;
+  «offsets_start» = a .«offsets_start»;
+  «offsets_count» = a .«offsets_count»;
+  layout = layoutFrom (a .layout);
+}
+
+-- every number of the columns in use names a case; entries past the fields may hold anything
+unfoldable pub isArray : CArray → Bool
+isArray a = isLayout (a .layout) && each (λ c. isCase (c .kind) (c .masked)) (take (a .fields) (a .columns))
+
+-- ---- writing
+abbrev pub columnTo : Column → CColumn
+columnTo c = record {
+  values = c .values;
+  mask = c .mask;
+  name = c .name;
+  slots = c .slots;
+  bit = c .bit;
+  size = c .size;
+  id = c .id;
+  kind = kindNumber (c .kind);
+  masked = digit (c .masked);
+}
+
+unfoldable pub arrayTo : UnionArray → CArray
+arrayTo a = record {
+  columns = map columnTo (a .columns);
+  fields = a .fields;
+  children = a .children;
+  start = a .start;
+  count = a .count;
+  «offsets_start» = a .«offsets_start»;
+  «offsets_count» = a .«offsets_count»;
+  layout = layoutNumber (a .layout);
+}
+
+abbrev pub valueTo : Value → CValue
+valueTo v = record {
+  bits = v .bits;
+  name = v .name;
+  size = v .size;
+  refusal = v .refusal;
+  id = v .id;
+  kind = kindNumber (v .kind);
+  missing = digit (v .missing);
+}
+
+abbrev pub flagTo : Flag → CFlag
+flagTo f = record { refusal = f .refusal; holds = digit (f .holds) }
+
+abbrev pub typeIdTo : TypeId → CTypeId
+typeIdTo t = record { refusal = t .refusal; id = t .id }
+
+abbrev pub valueOffsetTo : ValueOffset → CValueOffset
+valueOffsetTo o = record { offset = o .offset; refusal = o .refusal }
+
+abbrev pub childTo : Child → CChild
+childTo c = record { column = columnTo (c .column); refusal = c .refusal }
+
+abbrev pub nameTo : NamePlace → CNamePlace
+nameTo n = record { start = n .start; size = n .size }
+
+unfoldable pub typeNamesTo : TypeNames → CTypeNames
+typeNamesTo t = record { names = map nameTo (t .names); count = t .count; refusal = t .refusal }
+
+abbrev pub sliceTo : Slice → CSlice
+sliceTo s = record { array = arrayTo (s .array); refusal = s .refusal }
+
+-- ---- the calls: "all other answer fields 0" where a number names no case
+unfoldable pub cTryNew : CArray → Buffers → ℕ
+cTryNew a m = atBoundary (isArray a) (tryNewOf (arrayFrom a) m) badNumber
+
+unfoldable pub cValue : CArray → Buffers → ℕ → CValue
+cValue a m i = valueTo (atBoundary (isArray a) (valueOf (arrayFrom a) m i) (noValue badNumber))
+
+unfoldable pub cTypeId : CArray → Buffers → ℕ → CTypeId
+cTypeId a m i = typeIdTo (atBoundary (isArray a) (typeIdOf (arrayFrom a) m i) (record { refusal = badNumber; id = pos 0 }))
+
+unfoldable pub cValueOffset : CArray → Buffers → ℕ → CValueOffset
+cValueOffset a m i = valueOffsetTo (atBoundary (isArray a) (valueOffsetOf (arrayFrom a) m i) (record { offset = 0; refusal = badNumber }))
+
+unfoldable pub cChild : CArray → Buffers → ℤ → CChild
+cChild a m id = childTo (atBoundary (isArray a) (childOf (arrayFrom a) m id) (record { column = noColumn; refusal = badNumber }))
+
+unfoldable pub cTypeNames : CArray → Buffers → CTypeNames
+cTypeNames a m = typeNamesTo (atBoundary (isArray a) (typeNamesOf (arrayFrom a) m) (record { names = replicate 128 noName; count = 0; refusal = badNumber }))
+
+abbrev pub noFlag : Flag
+noFlag = record { refusal = badNumber; holds = false }
+
+unfoldable pub cIsDense : CArray → Buffers → CFlag
+cIsDense a m = flagTo (atBoundary (isArray a) (isDenseOf (arrayFrom a) m) noFlag)
+
+unfoldable pub cIsNullable : CArray → Buffers → CFlag
+cIsNullable a m = flagTo (atBoundary (isArray a) (isNullableOf (arrayFrom a) m) noFlag)
+
+-- where the shown type ids are: the array's own part of the lent ones
+abbrev pub partOf : UnionArray → ℕ → CPart
+partOf a n = record { start = ifYes n (a .start) 0; count = ifYes n (a .count) 0; refusal = n }
+
+unfoldable pub cTypeIds : CArray → Buffers → CPart
+cTypeIds a m = partOf (arrayFrom a) (atBoundary (isArray a) (asked (arrayFrom a) (amountsOf m)) badNumber)
+
+unfoldable pub cSlice : CArray → Buffers → ℕ → ℕ → CSlice
+cSlice a m o n = sliceTo (atBoundary (isArray a) (sliceOf (arrayFrom a) m o n) (record { array = noArray; refusal = badNumber }))

@@ -1,0 +1,265 @@
+// The makings of a builder and the calls on it, for C.
+ghost use mathlib.Core.Path.{_≡_};
+ghost use mathlib.Core.Option.{none, some};
+ghost use Rattle.union_array.specs.declared.Layout.the-variants.{Sparse, Dense};
+ghost use Rattle.union_array.specs.Buffers.{buffersOf};
+ghost use Rattle.union_ffi.specs.Builders.{madeTo, lengthTo, finishedTo, cOutcome, cMade, cAppendWith, cLen, notFinished, cFinishCloned, cFinish};
+use crate::CBuilder;
+use crate::CBuilt;
+use crate::CFinished;
+use crate::CLength;
+use crate::convert;
+use union_array::slices;
+use union_builder::Finished;
+use union_builder::Made;
+use union_builder::UnionBuilder;
+
+// A made builder, for C.
+fn made_to(r: Made) -> CBuilt
+    ensures { λ c. ⌜ c ≡ madeTo r ⌝ }
+{
+    let b = r.builder;
+    CBuilt {
+        builder: convert::builder_to(b),
+        refusal: r.refusal,
+    }
+}
+
+// A dense builder of `capacity` slots and at most `limit` columns.
+#[no_mangle]
+pub extern "C" fn union_builder_with_capacity_dense(
+    capacity: usize,
+    limit: usize,
+    type_ids: &[i8],
+    offsets: &[i32],
+    values: &[u64],
+    masks: &[u64],
+    names: &[u8],
+) -> CBuilt
+    ensures { λ r. ⌜ r ≡ cMade Dense capacity limit (buffersOf (now («type_ids» .entry)) (now (offsets .entry)) (now (values .entry)) (now (masks .entry)) (now (names .entry))) ⌝ }
+{
+    made_to(UnionBuilder::with_capacity_dense(
+        capacity,
+        limit,
+        type_ids,
+        offsets,
+        values,
+        masks,
+        names,
+    ))
+}
+
+// A sparse builder of `capacity` slots and at most `limit` columns.
+#[no_mangle]
+pub extern "C" fn union_builder_with_capacity_sparse(
+    capacity: usize,
+    limit: usize,
+    type_ids: &[i8],
+    offsets: &[i32],
+    values: &[u64],
+    masks: &[u64],
+    names: &[u8],
+) -> CBuilt
+    ensures { λ r. ⌜ r ≡ cMade Sparse capacity limit (buffersOf (now («type_ids» .entry)) (now (offsets .entry)) (now (values .entry)) (now (masks .entry)) (now (names .entry))) ⌝ }
+{
+    made_to(UnionBuilder::with_capacity_sparse(
+        capacity,
+        limit,
+        type_ids,
+        offsets,
+        values,
+        masks,
+        names,
+    ))
+}
+
+// A dense builder of 1024 slots.
+#[no_mangle]
+pub extern "C" fn union_builder_new_dense(
+    limit: usize,
+    type_ids: &[i8],
+    offsets: &[i32],
+    values: &[u64],
+    masks: &[u64],
+    names: &[u8],
+) -> CBuilt
+    ensures { λ r. ⌜ r ≡ cMade Dense 1024 limit (buffersOf (now («type_ids» .entry)) (now (offsets .entry)) (now (values .entry)) (now (masks .entry)) (now (names .entry))) ⌝ }
+{
+    made_to(UnionBuilder::new_dense(limit, type_ids, offsets, values, masks, names))
+}
+
+// A sparse builder of 1024 slots.
+#[no_mangle]
+pub extern "C" fn union_builder_new_sparse(
+    limit: usize,
+    type_ids: &[i8],
+    offsets: &[i32],
+    values: &[u64],
+    masks: &[u64],
+    names: &[u8],
+) -> CBuilt
+    ensures { λ r. ⌜ r ≡ cMade Sparse 1024 limit (buffersOf (now («type_ids» .entry)) (now (offsets .entry)) (now (values .entry)) (now (masks .entry)) (now (names .entry))) ⌝ }
+{
+    made_to(UnionBuilder::new_sparse(limit, type_ids, offsets, values, masks, names))
+}
+
+// Appends a value to the column with the name.
+#[no_mangle]
+pub extern "C" fn union_builder_append(
+    builder: CBuilder,
+    name: &[u8],
+    kind: u8,
+    bits: u64,
+    type_ids: &mut [i8],
+    offsets: &mut [i32],
+    values: &mut [u64],
+    masks: &mut [u64],
+    names: &mut [u8],
+) -> CBuilt
+    ensures { λ r. ⌜
+        cOutcome r (buffersOf (now («type_ids» .exit)) (now (offsets .exit)) (now (values .exit)) (now (masks .exit)) (now (names .exit)))
+        ≡ cAppendWith builder (buffersOf (now («type_ids» .entry)) (now (offsets .entry)) (now (values .entry)) (now (masks .entry)) (now (names .entry))) (now (name .entry)) kind (some bits) ⌝ }
+{
+    if !convert::is_builder(builder) {
+        return CBuilt {
+            builder: builder,
+            refusal: 128,
+        };
+    }
+    if 9 < kind {
+        return CBuilt {
+            builder: builder,
+            refusal: 128,
+        };
+    }
+    let b = convert::builder_from(builder);
+    let k = convert::kind_from(kind);
+    let r = b.append(name, k, bits, type_ids, offsets, values, masks, names);
+    let after = r.builder;
+    CBuilt {
+        builder: convert::builder_to(after),
+        refusal: r.refusal,
+    }
+}
+
+// Appends a null to the column with the name.
+#[no_mangle]
+pub extern "C" fn union_builder_append_null(
+    builder: CBuilder,
+    name: &[u8],
+    kind: u8,
+    type_ids: &mut [i8],
+    offsets: &mut [i32],
+    values: &mut [u64],
+    masks: &mut [u64],
+    names: &mut [u8],
+) -> CBuilt
+    ensures { λ r. ⌜
+        cOutcome r (buffersOf (now («type_ids» .exit)) (now (offsets .exit)) (now (values .exit)) (now (masks .exit)) (now (names .exit)))
+        ≡ cAppendWith builder (buffersOf (now («type_ids» .entry)) (now (offsets .entry)) (now (values .entry)) (now (masks .entry)) (now (names .entry))) (now (name .entry)) kind none ⌝ }
+{
+    if !convert::is_builder(builder) {
+        return CBuilt {
+            builder: builder,
+            refusal: 128,
+        };
+    }
+    if 9 < kind {
+        return CBuilt {
+            builder: builder,
+            refusal: 128,
+        };
+    }
+    let b = convert::builder_from(builder);
+    let k = convert::kind_from(kind);
+    let r = b.append_null(name, k, type_ids, offsets, values, masks, names);
+    let after = r.builder;
+    CBuilt {
+        builder: convert::builder_to(after),
+        refusal: r.refusal,
+    }
+}
+
+// How many slots there are.
+#[no_mangle]
+pub extern "C" fn union_builder_len(builder: CBuilder) -> CLength
+    ensures { λ r. ⌜ r ≡ cLen builder ⌝ }
+{
+    if !convert::is_builder(builder) {
+        return CLength {
+            builder: builder,
+            len: 0,
+            refusal: 128,
+        };
+    }
+    let b = convert::builder_from(builder);
+    let l = b.len();
+    let after = l.builder;
+    CLength {
+        builder: convert::builder_to(after),
+        len: l.len,
+        refusal: 0,
+    }
+}
+
+// What a finish answers, for C.
+fn finished_to(f: Finished) -> CFinished
+    ensures { λ r. ⌜ r ≡ finishedTo f ⌝ }
+{
+    let b = f.builder;
+    let a = f.array;
+    CFinished {
+        builder: convert::builder_to(b),
+        array: convert::array_to(a),
+        refusal: f.refusal,
+    }
+}
+
+// What a finish of a builder with a number that names no case answers.
+fn not_finished(builder: CBuilder) -> CFinished
+    ensures { λ r. ⌜ r ≡ notFinished builder ⌝ }
+{
+    CFinished {
+        builder: builder,
+        array: convert::array_to(slices::no_array()),
+        refusal: 128,
+    }
+}
+
+// Describes the array so far, and keeps the builder.
+#[no_mangle]
+pub extern "C" fn union_builder_finish_cloned(
+    builder: CBuilder,
+    type_ids: &[i8],
+    offsets: &[i32],
+    values: &[u64],
+    masks: &[u64],
+    names: &[u8],
+) -> CFinished
+    ensures { λ r. ⌜ r ≡ cFinishCloned builder (buffersOf (now («type_ids» .entry)) (now (offsets .entry)) (now (values .entry)) (now (masks .entry)) (now (names .entry))) ⌝ }
+{
+    if !convert::is_builder(builder) {
+        return not_finished(builder);
+    }
+    let b = convert::builder_from(builder);
+    finished_to(b.finish_cloned(type_ids, offsets, values, masks, names))
+}
+
+// Describes the array so far, and hands back an empty builder.
+#[no_mangle]
+pub extern "C" fn union_builder_finish(
+    builder: CBuilder,
+    type_ids: &[i8],
+    offsets: &[i32],
+    values: &[u64],
+    masks: &[u64],
+    names: &[u8],
+) -> CFinished
+    ensures { λ r. ⌜ r ≡ cFinish builder (buffersOf (now («type_ids» .entry)) (now (offsets .entry)) (now (values .entry)) (now (masks .entry)) (now (names .entry))) ⌝ }
+{
+    if !convert::is_builder(builder) {
+        return not_finished(builder);
+    }
+    let b = convert::builder_from(builder);
+    finished_to(b.finish(type_ids, offsets, values, masks, names))
+}
