@@ -74,8 +74,6 @@ impl<'a, P: Port> Part<'a, P> {
 
 /// All comparisons of one port; answers how many were made. `longest` is the capacity of the builders that are filled.
 fn compare<P: Port>(port: &P, seed: u64, cases: u64, longest: usize) -> u64 {
-    let mut short = Part::new(port, "short batches, exhaustively", seed);
-    cases::short(&mut |case| short.run(&Input::Batch(case.clone())));
     let mut random = Random(seed);
     let mut batches = Part::new(port, "random batches, damaged ones, chains of slices", seed);
     for _ in 0..cases {
@@ -95,13 +93,15 @@ fn compare<P: Port>(port: &P, seed: u64, cases: u64, longest: usize) -> u64 {
         let script = cases::script(&mut random);
         lists.run(&Input::Script(script));
     }
+    let mut short = Part::new(port, "short batches, exhaustively", seed);
+    cases::short(&mut |case| short.run(&Input::Batch(case.clone())));
     let mut filled = Part::new(port, "builders filled", seed);
     for (capacity, limit) in [(1, 1), (64, 3), (65, 128), (1024, 5), (longest, 1), (longest, 3), (longest, 10)] {
         for dense in [true, false] {
             filled.run(&Input::Fill(Fill { dense, capacity, limit, seed: random.next() }));
         }
     }
-    short.close() + batches.close() + lists.close() + filled.close()
+    batches.close() + lists.close() + short.close() + filled.close()
 }
 
 #[cfg(port)]

@@ -45,6 +45,7 @@ fn smaller(input: &Input) -> Vec<Input> {
                 all.push(Input::Chain(case.clone(), fewer));
             }
             all.extend(smaller_cases(case).into_iter().map(|case| Input::Chain(case, slices.clone())));
+            all.extend(without_first_slots(case, slices));
             for k in 0..slices.len() {
                 for (start, count) in [(slices[k].0 / 2, slices[k].1), (slices[k].0, slices[k].1 / 2)] {
                     let mut lower = slices.clone();
@@ -59,6 +60,24 @@ fn smaller(input: &Input) -> Vec<Input> {
         Input::Script(script) => smaller_scripts(script).into_iter().map(Input::Script).collect(),
         Input::Fill(_) => vec![],
     }
+}
+
+/// A chain without slots that its first slice leaves out, before and behind it.
+fn without_first_slots(case: &Case, slices: &[(usize, usize)]) -> Vec<Input> {
+    let mut all = Vec::new();
+    let Some((start, count)) = slices.first().copied() else { return all };
+    for fewer in [start, start / 2, 1] {
+        if fewer == 0 || fewer > start || start + count > case.batch.count {
+            continue;
+        }
+        let mut moved = slices.to_vec();
+        moved[0].0 = start - fewer;
+        if let Some(batch) = case.sliced(fewer, case.batch.count - fewer) {
+            all.push(Input::Chain(Case { batch, lent: case.lent.clone() }, moved.clone()));
+        }
+        all.extend(cut(case, fewer).map(|case| Input::Chain(case, moved)));
+    }
+    all
 }
 
 // --------------------------------------------------------------------------------------------------------- batches
@@ -165,6 +184,11 @@ fn smaller_memory(case: &Case, with: &mut dyn FnMut(&dyn Fn(&mut Case) -> bool))
     with(&|other| other.lent.values.iter_mut().fold(false, |any, word| changed(word, 0) || any));
     for place in 0..case.lent.values.len().min(64) {
         with(&|other| changed(&mut other.lent.values[place], 0));
+        with(&|other| other.lent.values[place] > 1 && changed(&mut other.lent.values[place], 1));
+    }
+    for place in 0..case.lent.offsets.len().min(64) {
+        with(&|other| other.lent.offsets[place] > 0 && changed(&mut other.lent.offsets[place], 0));
+        with(&|other| other.lent.offsets[place] > 1 && changed(&mut other.lent.offsets[place], 1));
     }
     for place in 0..case.lent.masks.len().min(64) {
         with(&|other| changed(&mut other.lent.masks[place], 0));
