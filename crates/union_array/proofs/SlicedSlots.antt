@@ -1,10 +1,10 @@
--- A slice of an accepted array is accepted, and its slot i is slot o + i of the array; so for chains of slices. Assumes nothing.
+-- A slice of an accepted array is accepted, and its slot i is slot o + i of the array. Assumes nothing.
 use mathlib.Core.Path.{_≡_, refl, sym, ap, ap₂, _∙_}
 use mathlib.Core.Bool.{Bool, true, false, cond, not, _&&_, _||_}
 use mathlib.Core.Option.{Option, none, some}
 use mathlib.Core.List.{List, [], _∷_, _++_, map}
 use Prim.Native.Nat.{ℕ, zero, suc, _+_, _-_, _*_, _/_, _%_, _≤_, _<_}
-use native.Mathlib.Nat.{add-assoc, zero-add}
+use native.Mathlib.Nat.{add-assoc}
 use native.Mathlib.Omega.{arith}
 use borrow.Author.Tests.{le-leb, eqb-true, eq-eqb, lt-ltb}
 use lib.Dec.{eqb, leb}
@@ -158,16 +158,20 @@ module _ (a : UnionArray) (lent : Amounts) (o n : ℕ) (y : Accepted a lent) (h 
 -- ---- a slot of a slice
 
 -- 7 and 8 of a slot, by its child and its offset
-abbrev slotAsked : Layout → Option Column → ℤ → ℕ
+abbrev pub slotAsked : Layout → Option Column → ℤ → ℕ
 slotAsked l c z = no 7 (isSome c) then no 8 (byLayout l true (withinChild z c))
 
 -- a slot's value, by its child, its offset and its place
-abbrev told : Layout → Buffers → Option Column → ℤ → ℕ → Value
+abbrev pub told : Layout → Buffers → Option Column → ℤ → ℕ → Value
 told l m c z i = ifYes (slotAsked l c z) (valueIn c m (byLayout l i (natAbs z))) (noValue (slotAsked l c z))
 
-value-told : (a : UnionArray) (m : Buffers) (i : ℕ) → asked a (amountsOf m) ≡ 0 → i < a .count → valueOf a m i ≡ told (a .layout) m (childAt a m i) (offsetAt a m i) i
-unfolding valueOf slotChecked
-value-told a m i e h = rw (e, lt-ltb i (a .count) h)
+pub slot-asked : (a : UnionArray) (m : Buffers) (i : ℕ) → asked a (amountsOf m) ≡ 0 → i < a .count → slotChecked a m i ≡ slotAsked (a .layout) (childAt a m i) (offsetAt a m i)
+unfolding slotChecked
+slot-asked a m i e h = rw (e, lt-ltb i (a .count) h)
+
+pub value-told : (a : UnionArray) (m : Buffers) (i : ℕ) → asked a (amountsOf m) ≡ 0 → i < a .count → valueOf a m i ≡ told (a .layout) m (childAt a m i) (offsetAt a m i) i
+unfolding valueOf
+value-told a m i e h = rw (slot-asked a m i e h)
 
 -- a child's slot i after the move is its slot o + i before
 pub present-moved : (m : Buffers) (c : Column) (o n i : ℕ) → present (movedColumn Sparse o n c) m i ≡ present c m (o + i)
@@ -236,33 +240,3 @@ module _ (a : UnionArray) (m : Buffers) (o n i : ℕ) where
       ∙ ap (λ (c : Option Column). told (a .layout) m c (offsetAt (sliced a o n) m i) i) child-sliced
       ∙ offset-moved (a .layout) m (mapOption (movedColumn (a .layout) o n) (childAt a m (o + i))) (a .«offsets_start») o i i
       ∙ told-moved (a .layout) m o n i (childAt a m (o + i)) (offsetAt a m (o + i)) ∙ sym (value-told a m (o + i) e w)
-
--- ---- chains of slices, each (o, n)
-
-abbrev pub chain : UnionArray → List (ℕ × ℕ) → UnionArray
-chain a [] = a
-chain a (p ∷ ps) = chain (sliced a (p .0) (p .1)) ps
-
--- each lies within the one before it, the first within k slots
-abbrev pub Chained : ℕ → List (ℕ × ℕ) → Type 0
-Chained k [] = Unit {0}
-Chained k (p ∷ ps) = (p .0 + p .1 ≤ k) × Chained (p .1) ps
-
-abbrev pub movedBy : List (ℕ × ℕ) → ℕ
-movedBy [] = 0
-movedBy (p ∷ ps) = p .0 + movedBy ps
-
-abbrev pub lastCount : ℕ → List (ℕ × ℕ) → ℕ
-lastCount k [] = k
-lastCount k (p ∷ ps) = lastCount (p .1) ps
-
-pub chain-value : (a : UnionArray) (m : Buffers) (ps : List (ℕ × ℕ)) (k i : ℕ) → k ≡ a .count → asked a (amountsOf m) ≡ 0 → Chained k ps → i < lastCount k ps
-    → (movedBy ps + i < k) × (valueOf (chain a ps) m i ≡ valueOf a m (movedBy ps + i))
-chain-value a m [] k i z e c h = (omega arith, rw (zero-add i))
-chain-value a m (p ∷ ps) k i z e c h =
-    let w : p .0 + p .1 ≤ a .count = omega (arith, c .0) in
-    let r = chain-value (sliced a (p .0) (p .1)) m ps (p .1) i (sliced-count a (p .0) (p .1))
-    (sliced-asked a (amountsOf m) (p .0) (p .1) (accepted a (amountsOf m) e) w) (c .1) h in (
-      omega (arith, c .0, r .0),
-      r .1 ∙ sliced-value a m (p .0) (p .1) (movedBy ps + i) e w (r .0) ∙ ap (valueOf a m) (sym (add-assoc (p .0) (movedBy ps) i)),
-    )

@@ -1,29 +1,30 @@
 -- An append: its refusals, and what an accepted one does. Assumes nothing.
 use mathlib.Core.Path.{_≡_, refl, sym, ap, ap₂, _∙_, subst}
-use mathlib.Core.Bool.{Bool, true, false, cond, _&&_}
+use mathlib.Core.Bool.{Bool, true, false, cond}
 use mathlib.Core.Option.{Option, none, some}
 use mathlib.Core.List.{List}
-use Prim.Native.Nat.{ℕ, zero, suc, _+_, _*_, _≤_, _<_}
-use native.Mathlib.Nat.{mul-le-mul-right, mul-le-mul-left}
+use Prim.Native.Nat.{ℕ, zero, suc, _≤_, _<_}
+use native.Mathlib.Nat.{mul-le-mul-right}
 use native.Mathlib.Omega.{arith}
 use borrow.Author.Tests.{ltb-true, eq-eqb, ne-eqb}
-use lib.Dec.{eqb, ltb}
-use lib.IntN.{ℤ}
-use lib.ListN.{length, take, drop}
-use Rattle.bitmap.specs.Lists.{every, retable}
+use lib.Dec.{eqb}
+use lib.ListN.{length}
+use Rattle.bitmap.specs.Lists.{every}
 use Rattle.bitmap.specs.Bits.{wordsFor}
 use Rattle.bitmap.proofs.Tables.{three, both, every-at, retable-ext}
 use Rattle.union_array.specs.declared.Amounts.{Amounts}
 use Rattle.union_array.specs.declared.Kind.{Kind}
 use Rattle.union_array.specs.declared.Layout.{Layout}
 use Rattle.union_array.specs.declared.Layout.the-variants.{Sparse, Dense}
-use Rattle.union_array.specs.Types.{byLayout, widthOf, lowBits}
+use Rattle.union_array.specs.Types.{widthOf, lowBits}
 use Rattle.union_array.specs.Buffers.{Buffers, amountsOf}
 use Rattle.union_array.specs.Refusal.{no, _then_, ifYes}
-use Rattle.union_builder.specs.Names.{sameName, place, question17}
+use Rattle.union_builder.specs.Names.{place, question17}
 use Rattle.union_builder.specs.Builder.{BuilderColumn, UnionBuilder, column, columnFits, question15, question16, builderChecked, namesOf}
 use Rattle.union_builder.specs.Append.{question18, question19, question20, appendChecked, columnBefore, columnAfter, builderAfter, buffersAfter, outcome, orElse, countAfter, grown, appendWith, appendOf, appendNullOf}
-use Rattle.union_builder.specs.Inner.{Plan, valueOf, Room, onlyNames, placeOf, Writable, Sound, settled, columnAt, plannedAt, planBy, refusedPlan, restChecked, allChecked, planOf, appendedOf, numbersFit}
+use Rattle.union_builder.specs.Finding.{onlyNames, numbersFit}
+use Rattle.union_builder.specs.Writing.{Plan, valueOf, Room, placeOf, Writable}
+use Rattle.union_builder.specs.Planning.{Sound, settled, columnAt, plannedAt, planBy, restChecked, allChecked, planOf, appendedOf}
 use Rattle.union_builder.proofs.Asking.{Numbers, numbers-yes, Lent, lent-yes, column-yes, parts-15}
 use Rattle.union_builder.proofs.Places.{place-first, first-below}
 use Rattle.union_builder.proofs.Plans.{first-slots-le, name-short}

@@ -1,17 +1,15 @@
 -- Columns with one slot more, one by one and all at once. Assumes nothing.
 use mathlib.Core.Path.{_≡_, refl, sym, ap, ap₂, _∙_}
-use mathlib.Core.Logic.{_≢_}
 use mathlib.Core.Bool.{Bool, true, false, cond, not, _||_}
-use mathlib.Core.Option.{Option, none, some}
+use mathlib.Core.Option.{none}
 use mathlib.Core.List.{List, _++_}
-use Prim.Native.Nat.{ℕ, suc, _+_, _≤_, _<_}
+use Prim.Native.Nat.{ℕ, _+_, _≤_, _<_}
 use native.Mathlib.Nat.{le-refl}
-use native.Mathlib.Decide.{decLt}
 use native.Mathlib.Numerals.{add-one}
 use native.Mathlib.Omega.{arith}
 use borrow.Author.Tests.{eq-eqb, ne-eqb}
 use lib.Dec.{eqb}
-use lib.ListN.{length, getD, set, drop, length-set}
+use lib.ListN.{length, getD, set, length-set}
 use lib.Seq.{getD-set-same, getD-set-other, drop-set-lt, ext-getD}
 use Rattle.bitmap.specs.Lists.{table, retable}
 use Rattle.bitmap.proofs.Tables.{three, retable-ext, retable-length, retable-at, retable-past, retable-turn}
@@ -19,7 +17,8 @@ use Rattle.union_array.specs.declared.Layout.{Layout}
 use Rattle.union_array.specs.declared.Layout.the-variants.{Sparse, Dense}
 use Rattle.union_builder.specs.Builder.{BuilderColumn, UnionBuilder, noBuilderColumn, column}
 use Rattle.union_builder.specs.Append.{isNone, grown, columnAfter}
-use Rattle.union_builder.specs.Inner.{Plan, grownBy, valueOf, Short, withColumns, rowAfter, settled}
+use Rattle.union_builder.specs.Writing.{Plan, valueOf}
+use Rattle.union_builder.specs.Planning.{grownBy, Short, withColumns, rowAfter, settled}
 
 -- ---- one column
 

@@ -2,16 +2,15 @@
 use mathlib.Core.Path.{_≡_, refl, sym, ap, _∙_}
 use mathlib.Core.Bool.{Bool, true, false, cond, _&&_}
 use mathlib.Core.Option.{Option, none, some}
-use mathlib.Core.List.{List, [], _∷_}
-use Prim.Native.Nat.{ℕ, zero, suc, _+_, _*_, _≤_, _<_}
+use mathlib.Core.List.{List}
+use Prim.Native.Nat.{ℕ, zero, suc, _+_, _*_, _<_}
 use native.Mathlib.Numerals.{add-one}
 use native.Mathlib.Omega.{arith}
-use lib.ListN.{getD, take, drop}
+use lib.ListN.{take, drop}
 use Rattle.bitmap.specs.Lists.{table, every}
-use Rattle.bitmap.proofs.Tables.{every-more}
 use Rattle.union_builder.specs.Names.{sameName, next, place}
-use Rattle.union_builder.specs.Builder.{BuilderColumn, UnionBuilder, column, columnFits, namesOf}
-use Rattle.union_builder.specs.Inner.{Found, onlyNames, nothing, foundAt, foundIn, soughtOf, lookOf}
+use Rattle.union_builder.specs.Builder.{UnionBuilder, column, columnFits, namesOf}
+use Rattle.union_builder.specs.Finding.{Found, onlyNames, nothing, foundAt, foundIn, soughtOf, lookOf}
 
 -- the first of two
 abbrev orThen : Option ℕ → Option ℕ → Option ℕ

@@ -1,13 +1,13 @@
 -- The plan of an append, by the questions that are answered. Assumes nothing.
-use mathlib.Core.Path.{_≡_, refl, sym, ap, _∙_}
+use mathlib.Core.Path.{_≡_, refl}
 use mathlib.Core.Bool.{Bool, true, false, cond, _&&_}
 use mathlib.Core.Option.{Option, none, some}
 use mathlib.Core.List.{List}
-use Prim.Native.Nat.{ℕ, zero, suc, _+_, _≤_, _<_}
+use Prim.Native.Nat.{ℕ, _+_, _≤_, _<_}
 use native.Mathlib.Numerals.{add-one}
 use native.Mathlib.Omega.{arith}
 use borrow.Author.Tests.{lt-ltb, le-ltb, leb-true}
-use lib.Dec.{ltb, leb}
+use lib.Dec.{leb}
 use lib.ListN.{length}
 use Rattle.bitmap.specs.Lists.{every}
 use Rattle.bitmap.proofs.Tables.{both}
@@ -19,8 +19,8 @@ use Rattle.union_array.specs.Types.{byLayout, sameKind}
 use Rattle.union_builder.specs.Utf8.{utf8}
 use Rattle.union_builder.specs.Names.{question17, place}
 use Rattle.union_builder.specs.Builder.{BuilderColumn, UnionBuilder, column, columnFits, builderChecked}
-use Rattle.union_builder.specs.Append.{opened}
-use Rattle.union_builder.specs.Inner.{Found, Plan, nothing, foundIn, lookOf, atOf, refusedPlan, columnAt, plannedAt, restOf, planOf}
+use Rattle.union_builder.specs.Finding.{Found, nothing, foundIn, lookOf, atOf}
+use Rattle.union_builder.specs.Planning.{refusedPlan, columnAt, plannedAt, restOf, planOf}
 
 pub first-slots-le : (l : Layout) (n : ℕ) → byLayout l n 0 ≤ n
 first-slots-le Sparse n = omega arith

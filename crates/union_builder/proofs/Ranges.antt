@@ -5,14 +5,14 @@ use mathlib.Core.List.{List, [], _∷_}
 use Prim.Native.Nat.{ℕ, zero, suc, _+_, _-_, _≤_, _<_}
 use native.Mathlib.Numerals.{add-one}
 use native.Mathlib.Omega.{arith}
-use borrow.Author.Tests.{le-leb, lt-leb, eq-eqb, ne-eqb}
+use borrow.Author.Tests.{le-leb, lt-leb, ne-eqb}
 use lib.Dec.{eqb, leb}
-use lib.ListN.{length, getD, drop, replicate, drop-of-length-le}
+use lib.ListN.{length, getD, drop, drop-of-length-le}
 use lib.Seq.{drop-cons}
 use Rattle.bitmap.proofs.Tables.{three}
 use Rattle.union_builder.specs.Utf8.{Range, range, tail, never, inRange, following, utf8After, utf8}
 use Rattle.union_builder.specs.Names.{question17}
-use Rattle.union_builder.specs.Inner.{Expected, ranges, rangesOf}
+use Rattle.union_builder.specs.Expecting.{Expected, ranges, rangesOf}
 
 pub in-yes : (b low high : ℕ) → low ≤ b → b ≤ high → inRange b low high ≡ true
 in-yes b low high h g = rw (le-leb low b h, le-leb b high g)

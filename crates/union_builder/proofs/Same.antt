@@ -1,14 +1,14 @@
 -- Two names are the same exactly if they are equal as lists. Assumes nothing.
-use mathlib.Core.Path.{_≡_, refl, sym, ap, ap₂, _∙_}
-use mathlib.Core.Bool.{Bool, true, false, _&&_, false≢true}
+use mathlib.Core.Path.{_≡_, refl, sym, ap, ap₂, _∙_, subst}
+use mathlib.Core.Bool.{Bool, true, false, false≢true}
 use mathlib.Core.List.{List, [], _∷_}
-use Prim.Native.Nat.{ℕ, _+_, _≤_, _<_}
+use Prim.Native.Nat.{ℕ, _+_, _-_, _≤_, _<_}
 use native.Mathlib.Omega.{arith}
 use borrow.Author.Tests.{eq-eqb, eqb-true}
 use lib.Dec.{eqb}
-use lib.ListN.{length, getD, take, drop, length-take, length-drop}
+use lib.ListN.{length, getD, take, drop, length-drop}
 use lib.Seq.{ext-getD, getD-take, getD-drop, length-take-le}
-use Rattle.bitmap.proofs.Tables.{both}
+use Rattle.bitmap.proofs.Tables.{three, both}
 use Rattle.union_builder.specs.Names.{sameName}
 
 same-refl : (xs : List ℕ) → sameName xs xs ≡ true
@@ -52,3 +52,8 @@ module _ (names name : List ℕ) (at size : ℕ) (fits : at + size ≤ length na
   other-byte j h n =
       sym (same-no name (take size (drop at names))
       (λ q. n (sym (getD-drop at names j 0) ∙ sym (getD-take size (drop at names) j 0 h) ∙ sym (ap (λ (l : List ℕ). getD l j 0) q))))
+
+-- one byte more, from the end
+pub above-more : (P : ℕ → Type 0) (i n : ℕ) → 0 < i → ((j : ℕ) → i ≤ j → j < n → P j) → P (i - 1) → (j : ℕ) → i - 1 ≤ j → j < n → P j
+above-more P i n p h q j l g =
+    three (i - 1) j {P = P j} (λ k. h j (omega arith) g) (λ e. subst P e q) (λ k. absurd (omega arith))

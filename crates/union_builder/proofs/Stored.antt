@@ -3,7 +3,7 @@ use mathlib.Core.Path.{_≡_, refl, sym, ap, ap₂, _∙_}
 use mathlib.Core.Bool.{Bool, true, false, cond}
 use mathlib.Core.Option.{Option, none, some}
 use mathlib.Core.List.{List, [], _∷_, _++_}
-use Prim.Native.Nat.{ℕ, _+_, _*_, _≤_, _<_}
+use Prim.Native.Nat.{ℕ, _*_}
 use lib.IntN.{ℤ, pos}
 use lib.ListN.{length, set}
 use lib.Seq.{paste}
@@ -14,7 +14,7 @@ use Rattle.union_array.specs.Types.{byLayout}
 use Rattle.union_array.specs.Buffers.{Buffers, buffersOf}
 use Rattle.union_builder.specs.Builder.{UnionBuilder}
 use Rattle.union_builder.specs.Append.{Put, put, orElse, countAfter, slotsBefore, filled, row, putsOf, puts, putValue, putBit, namesAfter, buffersAfter}
-use Rattle.union_builder.specs.Inner.{Plan, placeOf, putsSparse, putsFor}
+use Rattle.union_builder.specs.Writing.{Plan, placeOf, putsFor}
 
 fill-by : (fresh : Bool) (k id n : ℕ) → filled none id (cond fresh n 0) ≡ filled (cond fresh none (some k)) id n
 fill-by true k id n = refl

@@ -4,6 +4,10 @@ pub mod Names
 pub mod Builder
 pub mod Append
 pub mod Finish
+-- What the contracts of inner functions cite.
+pub mod Expecting
+pub mod Finding
+pub mod Writing
+pub mod Planning
 pub mod Order
-pub mod Inner
 pub mod Describe

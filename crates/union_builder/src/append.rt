@@ -9,7 +9,8 @@ use union_array::Kind;
 ghost use mathlib.Core.Path.{_≡_};
 ghost use Rattle.union_array.specs.Buffers.{buffersOf};
 ghost use Rattle.union_builder.specs.Append.{outcome};
-ghost use Rattle.union_builder.specs.Inner.{valueOf, appendedOf};
+ghost use Rattle.union_builder.specs.Writing.{valueOf};
+ghost use Rattle.union_builder.specs.Planning.{appendedOf};
 
 // Appends a value's word, or a null.
 pub(crate) fn append_slot(

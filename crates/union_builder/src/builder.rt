@@ -5,7 +5,6 @@ use crate::Made;
 use crate::UnionBuilder;
 use crate::append::append_slot;
 use crate::find::no_column;
-use crate::kinds::word_of;
 use crate::questions::builder_checked;
 use union_array::Amounts;
 use union_array::Kind;
@@ -169,7 +168,7 @@ impl UnionBuilder {
             self,
             name,
             kind,
-            word_of(kind, bits),
+            union_array::child_value::low_bits(bits, kind),
             true,
             type_ids,
             offsets,

@@ -6,12 +6,13 @@ use crate::slots::in_column;
 use union_array::Kind;
 use union_array::Layout;
 ghost use mathlib.Core.Path.{_≡_};
-ghost use mathlib.Core.Bool.{Bool, not};
-ghost use Prim.Native.Nat.{_+_, _^_, _<_, _≤_};
+ghost use mathlib.Core.Bool.{not};
+ghost use Prim.Native.Nat.{_+_, _<_, _≤_};
 ghost use lib.ListN.{length};
 ghost use Rattle.union_array.specs.Types.{byLayout};
 ghost use Rattle.union_builder.specs.Append.{opened};
-ghost use Rattle.union_builder.specs.Inner.{grownBy, valueOf, Short, withColumns, rowAfter, Sound, settled};
+ghost use Rattle.union_builder.specs.Writing.{valueOf};
+ghost use Rattle.union_builder.specs.Planning.{grownBy, Short, withColumns, rowAfter, Sound, settled};
 
 // The slots of a new column: in sparse as many nulls as there are slots.
 pub(crate) fn first_slots(layout: Layout, len: usize) -> usize

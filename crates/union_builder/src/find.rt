@@ -10,7 +10,7 @@ ghost use mathlib.Core.Bool.{true};
 ghost use Prim.Native.Nat.{_+_, _*_, _<_, _≤_};
 ghost use lib.ListN.{length};
 ghost use Rattle.union_builder.specs.Builder.{namesOf, noBuilderColumn};
-ghost use Rattle.union_builder.specs.Inner.{onlyNames, nothing, soughtOf, lookOf};
+ghost use Rattle.union_builder.specs.Finding.{onlyNames, nothing, soughtOf, lookOf};
 
 // The column of zeros.
 pub(crate) fn no_column() -> BuilderColumn

@@ -5,7 +5,7 @@ ghost use lib.ListN.{length, take, drop};
 ghost use lib.Seq.{paste};
 ghost use Rattle.union_builder.specs.Names.{sameName};
 
-// Whether the name is that of `size` bytes from `at` on.
+// Whether the name is that of `size` bytes from `at` on. Names often begin alike, so the last byte is compared first.
 pub(crate) fn same_name(names: &[u8], at: usize, size: usize, name: &[u8]) -> bool
     requires { ⌜ at + size ≤ length (now names) ⌝ }
     ensures { λ r. ⌜ r ≡ sameName (now (name .entry)) (take size (drop at (now (names .entry)))) ⌝ }
@@ -13,7 +13,9 @@ pub(crate) fn same_name(names: &[u8], at: usize, size: usize, name: &[u8]) -> bo
     if size != name.len() {
         return false;
     }
-    for i in 0..size {
+    let mut i = size;
+    while 0 < i {
+        i -= 1;
         if names[at + i] != name[i] {
             return false;
         }

@@ -17,7 +17,8 @@ ghost use mathlib.Core.Bool.{true, _&&_};
 ghost use Prim.Native.Nat.{_≤_};
 ghost use lib.ListN.{length};
 ghost use Rattle.union_builder.specs.Builder.{column, namesOf};
-ghost use Rattle.union_builder.specs.Inner.{onlyNames, atOf, refusedPlan, restOf, planOf};
+ghost use Rattle.union_builder.specs.Finding.{onlyNames, atOf};
+ghost use Rattle.union_builder.specs.Planning.{refusedPlan, restOf, planOf};
 
 // A plan that is refused.
 fn refused(n: u8) -> Plan

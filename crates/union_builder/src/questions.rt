@@ -7,7 +7,7 @@ ghost use mathlib.Core.Path.{_≡_};
 ghost use Prim.Native.Nat.{_≤_};
 ghost use Rattle.bitmap.specs.Lists.{every};
 ghost use Rattle.union_builder.specs.Builder.{columnFits, question16, builderChecked};
-ghost use Rattle.union_builder.specs.Inner.{fits, numbersFit};
+ghost use Rattle.union_builder.specs.Finding.{fits, numbersFit};
 
 // Whether a column fits a builder of `len` slots.
 pub(crate) fn column_fits(layout: Layout, len: usize, c: BuilderColumn) -> bool

@@ -7,7 +7,7 @@ ghost use lib.Dec.{eqb};
 ghost use lib.ListN.{length};
 ghost use Rattle.bitmap.specs.Bits.{wordsFor};
 ghost use Rattle.union_builder.specs.Append.{orElse, filled, row, puts, putValue, putBit};
-ghost use Rattle.union_builder.specs.Inner.{valueOf, Room};
+ghost use Rattle.union_builder.specs.Writing.{valueOf, Room};
 
 // The word of a slot: a null's is 0.
 fn slot_word(word: u64, present: bool) -> u64

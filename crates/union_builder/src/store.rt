@@ -16,7 +16,7 @@ ghost use Rattle.bitmap.specs.Bits.{wordsFor};
 ghost use Rattle.union_array.specs.Types.{byLayout};
 ghost use Rattle.union_array.specs.Buffers.{buffersOf, amountsOf};
 ghost use Rattle.union_builder.specs.Append.{puts, putValue, putBit, buffersAfter};
-ghost use Rattle.union_builder.specs.Inner.{valueOf, Room, placeOf, putsSparse, putsFor, Writable};
+ghost use Rattle.union_builder.specs.Writing.{valueOf, Room, placeOf, putsSparse, putsFor, Writable};
 
 // Stores a type id.
 fn put_type_id(type_ids: &mut [i8], at: usize, id: usize)

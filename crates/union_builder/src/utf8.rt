@@ -5,7 +5,7 @@ ghost use mathlib.Core.List.{List, _∷_};
 ghost use Prim.Native.Nat.{ℕ};
 ghost use Rattle.union_builder.specs.Utf8.{following, utf8After};
 ghost use Rattle.union_builder.specs.Names.{question17};
-ghost use Rattle.union_builder.specs.Inner.{rangesOf};
+ghost use Rattle.union_builder.specs.Expecting.{rangesOf};
 
 // What must follow a character's first byte.
 fn first(b: u8) -> Expected

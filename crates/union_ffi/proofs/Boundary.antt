@@ -1,25 +1,23 @@
 -- Appends, null masks and shown parts at the boundary. Assumes nothing.
-use mathlib.Core.Path.{_≡_, refl, sym, ap, _∙_}
-use mathlib.Core.Bool.{Bool, true, false, cond, _&&_}
+use mathlib.Core.Path.{_≡_, refl, ap}
+use mathlib.Core.Bool.{true, false}
 use mathlib.Core.Option.{Option}
 use mathlib.Core.List.{List}
 use Prim.Native.Nat.{ℕ, zero, suc, _<_, _≤_}
-use lib.Dec.{ltb}
 use borrow.Author.Tests.{lt-ltb, le-ltb}
 use Rattle.union_array.specs.declared.Kind.{Kind}
 use Rattle.union_array.specs.declared.UnionArray.{UnionArray}
 use Rattle.union_array.specs.Buffers.{Buffers}
-use Rattle.union_array.specs.Refusal.{ifYes}
 use Rattle.union_builder.specs.declared.Appended.{Appended}
 use Rattle.union_builder.specs.declared.UnionBuilder.{UnionBuilder}
-use Rattle.union_builder.specs.Append.{AppendOutcome, outcome, appendWith}
+use Rattle.union_builder.specs.Append.{outcome, appendWith}
 use Rattle.union_ffi.specs.Numbers.{kindFrom, badNumber}
 use Rattle.logical_nulls.specs.declared.LogicalNulls.{LogicalNulls}
 use Rattle.logical_nulls.specs.declared.SparseStrategy.{SparseStrategy}
-use Rattle.logical_nulls.specs.Mask.{Masked, masked, logicalNullsOf, strategyOf}
+use Rattle.logical_nulls.specs.Mask.{masked, logicalNullsOf, strategyOf}
 use Rattle.union_ffi.specs.Arrays.{CArray, CPart, arrayFrom, isArray, partOf}
-use Rattle.union_ffi.specs.Nulls.{CNulls, CMasked, strategyFrom, isStrategy, nullsTo, cMasked, maskedTo, cLogicalNulls, cStrategy}
-use Rattle.union_ffi.specs.Builders.{CBuilder, COutcome, builderFrom, builderTo, isBuilder, built, cOutcome, outcomeTo, cAppendWith}
+use Rattle.union_ffi.specs.Nulls.{CNulls, strategyFrom, isStrategy, nullsTo, cMasked, maskedTo, cLogicalNulls, cStrategy}
+use Rattle.union_ffi.specs.Builders.{CBuilder, builderFrom, builderTo, isBuilder, built, cOutcome, outcomeTo, cAppendWith}
 
 pub part-refused : (a : UnionArray) (n : ℕ) → (n ≡ 0 → ⊥) → _≡_ {A = CPart} (record { start = 0; count = 0; refusal = n }) (partOf a n)
 part-refused a zero h = absurd (h refl)

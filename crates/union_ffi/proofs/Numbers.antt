@@ -1,10 +1,9 @@
 -- Numbers that name cases. Assumes nothing.
-use mathlib.Core.Path.{_≡_, refl, sym, ap}
-use mathlib.Core.Bool.{Bool, true, false, cond}
+use mathlib.Core.Path.{_≡_}
+use mathlib.Core.Bool.{false}
 use Prim.Native.Nat.{ℕ, _<_, _≤_}
-use lib.Dec.{eqb, ltb}
+use lib.Dec.{ltb}
 use borrow.Author.Tests.{ne-eqb, le-ltb, lt-ltb}
-use Rattle.union_array.specs.declared.Kind.{Kind}
 use Rattle.union_array.specs.declared.Kind.the-variants.{Int8}
 use Rattle.union_ffi.specs.Numbers.{kindFrom, isCase}
 

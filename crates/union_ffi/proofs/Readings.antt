@@ -1,24 +1,22 @@
 -- Runs of appends. Assumes nothing.
-use mathlib.Core.Bool.{Bool, true, false, cond, _&&_}
-use mathlib.Core.Option.{Option, none, some}
+use mathlib.Core.Bool.{true, false, _&&_}
+use mathlib.Core.Option.{none, some}
 use mathlib.Core.List.{List}
 use mathlib.Core.Path.{_≡_, refl, sym, ap, _∙_}
-use Prim.Native.Nat.{ℕ, zero, suc, _+_, _<_, _≤_}
-use native.Mathlib.Omega.{arith}
+use Prim.Native.Nat.{ℕ, _+_, _<_, _≤_}
 use lib.Dec.{eqb, leb, ltb}
 use lib.ListN.{length, getD, set, take, drop}
-use borrow.Author.Tests.{lt-ltb, le-ltb, le-leb, lt-leb, leb-true, ltb-true, eqb-true, ne-eqb, eq-eqb}
+use borrow.Author.Tests.{lt-ltb, le-ltb, le-leb, lt-leb, leb-true, eqb-true, ne-eqb}
 use Rattle.bitmap.specs.Lists.{times}
 use Rattle.bitmap.proofs.Tables.{both, times-more}
 use Rattle.union_array.specs.declared.Kind.{Kind}
 use Rattle.union_array.specs.Buffers.{Buffers}
-use Rattle.union_array.specs.Refusal.{no, _then_, ifYes}
 use Rattle.union_builder.specs.declared.Appended.{Appended}
 use Rattle.union_builder.specs.declared.UnionBuilder.{UnionBuilder}
 use Rattle.union_builder.specs.Append.{AppendOutcome, outcome, appendWith}
-use Rattle.union_ffi.specs.Numbers.{kindFrom, isKind, flagFrom, isFlag, badNumber, badLength}
+use Rattle.union_ffi.specs.Numbers.{kindFrom, badNumber, badLength}
 use Rattle.union_ffi.specs.Builders.{CBuilder, isBuilder, builderFrom, builderTo, built}
-use Rattle.union_ffi.specs.Appends.{Readings, isReading, valueFrom, readingOf, Appends, appends, appendsStep, lengthsMatch, CAppends, cAppended, cAppends}
+use Rattle.union_ffi.specs.Appends.{Readings, isReading, readingOf, Appends, appends, appendsStep, lengthsMatch, cAppended, cAppends}
 
 -- ---- one reading
 

@@ -1,17 +1,17 @@
 -- A run's slots: which number they answer, and that what is written of each is what a lookup tells. Assumes nothing.
-use mathlib.Core.Bool.{Bool, true, false, cond, not, _&&_, false≢true}
+use mathlib.Core.Bool.{Bool, true, false, false≢true}
 use mathlib.Core.Option.{Option, none, some}
 use mathlib.Core.List.{List, []}
-use mathlib.Core.Path.{_≡_, refl, sym, ap, ap₂, _∙_}
+use mathlib.Core.Path.{_≡_, refl, sym, ap, _∙_}
 use Prim.Native.Nat.{ℕ, zero, suc, _+_, _<_, _≤_}
-use native.Mathlib.Nat.{not-suc-le-zero, le-refl, le-trans, le-of-lt}
+use native.Mathlib.Nat.{not-suc-le-zero}
 use native.Mathlib.Numerals.{add-one}
 use native.Mathlib.Omega.{arith}
-use lib.Dec.{T, leb, ltb}
+use lib.Dec.{T, leb}
 use lib.Signed.{nonNeg}
 use lib.IntN.{ℤ}
 use lib.ListN.{length, getD}
-use borrow.Author.Tests.{leb-true, le-leb, lt-leb, lt-ltb}
+use borrow.Author.Tests.{leb-true, lt-ltb}
 use Rattle.bitmap.specs.Lists.{retable}
 use Rattle.bitmap.specs.Bits.{digit}
 use Rattle.bitmap.proofs.Tables.{last-or, both, retable-ext}
@@ -21,11 +21,10 @@ use Rattle.union_array.specs.declared.Layout.{Layout}
 use Rattle.union_array.specs.declared.Layout.the-variants.{Dense}
 use Rattle.union_array.specs.Types.{byLayout, widthOf, lowBits}
 use Rattle.union_array.specs.Buffers.{Buffers, buffersOf, amountsOf}
-use Rattle.union_array.specs.Refusal.{no, _then_, ifYes}
-use Rattle.union_array.specs.Slots.{inUse, isSome, columnOf, present, typeIdAt, offsetAt, childAt, slotAt}
+use Rattle.union_array.specs.Refusal.{no, _then_}
+use Rattle.union_array.specs.Slots.{inUse, present, typeIdAt, offsetAt, childAt, slotAt}
 use Rattle.union_array.specs.Questions.{asked, within, withinChild, namedAt, offsetFits, slotChecked}
-use Rattle.union_array.specs.Lookup.{orNone, columnValue, valueIn, valueOf}
-use Rattle.union_array.specs.Check.{Readable, onlySlots}
+use Rattle.union_array.specs.Lookup.{orNone, columnValue, valueOf}
 use Rattle.union_array.proofs.Accepted.{Accepted, accepted, SlotAccepted, child-is, child-accepted, slot-in}
 use Rattle.union_array.proofs.Columns.{found-id}
 use Rattle.union_array.proofs.Checked.{readable}
@@ -33,7 +32,7 @@ use Rattle.union_array.proofs.ChildSlots.{within-sign}
 use Rattle.union_ffi.specs.Numbers.{badNumber, badLength}
 use Rattle.union_ffi.specs.Arrays.{CArray, isArray, arrayFrom}
 use Rattle.union_ffi.specs.Values.{firstNo, slotNo, runChecked, Values, valuesAnswer, hasRoom, valuesOf, cValues}
-use Rattle.union_ffi.specs.Reading.{SlotValue, placeTable, slotValueOf, slotValueAt, InChild, RunReadable, RunAccepted}
+use Rattle.union_ffi.specs.Reading.{SlotValue, placeTable, slotValueOf, slotValueAt, InChild, RunAccepted}
 
 -- ---- the first number
 

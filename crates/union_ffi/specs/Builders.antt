@@ -1,6 +1,6 @@
 -- Builders and their answers as C structs, and each call on a builder at the boundary.
 use mathlib.Core.Bool.{Bool, _&&_}
-use mathlib.Core.Option.{Option, none, some}
+use mathlib.Core.Option.{Option}
 use mathlib.Core.List.{List, map}
 use Prim.Native.Nat.{ℕ}
 use lib.ListN.{take}

@@ -5,7 +5,7 @@ use mathlib.Core.Path.{_≡_}
 use Prim.Native.Nat.{ℕ, suc, _+_, _<_, _≤_}
 use lib.IntN.{ℤ}
 use lib.ListN.{length, getD, set, replicate}
-use Rattle.bitmap.specs.Bits.{digit, sameId}
+use Rattle.bitmap.specs.Bits.{digit}
 use Rattle.union_array.specs.declared.Column.{Column}
 use Rattle.union_array.specs.declared.UnionArray.{UnionArray}
 use Rattle.union_array.specs.Types.{widthOf, lowBits}

@@ -3,7 +3,7 @@ ghost use mathlib.Core.Path.{_≡_};
 ghost use mathlib.Core.Option.{none, some};
 ghost use Rattle.union_array.specs.declared.Layout.the-variants.{Sparse, Dense};
 ghost use Rattle.union_array.specs.Buffers.{buffersOf};
-ghost use Rattle.union_ffi.specs.Builders.{madeTo, lengthTo, finishedTo, cOutcome, cMade, cAppendWith, cLen, notFinished, cFinishCloned, cFinish};
+ghost use Rattle.union_ffi.specs.Builders.{madeTo, finishedTo, cOutcome, cMade, cAppendWith, cLen, notFinished, cFinishCloned, cFinish};
 use crate::CBuilder;
 use crate::CBuilt;
 use crate::CFinished;

@@ -1,10 +1,9 @@
 // Numbers and C structs, read as the crates below have them, and written back.
 ghost use mathlib.Core.Path.{_≡_};
-ghost use mathlib.Core.List.{map};
 ghost use Rattle.bitmap.specs.Bits.{digit};
 ghost use Rattle.union_array.specs.Types.{kindNumber};
 ghost use Rattle.union_ffi.specs.Numbers.{kindFrom, layoutFrom, layoutNumber, isCase};
-ghost use Rattle.union_ffi.specs.Arrays.{columnFrom, arrayFrom, isArray, columnTo, arrayTo, valueTo, flagTo, nameTo, typeNamesTo};
+ghost use Rattle.union_ffi.specs.Arrays.{columnFrom, arrayFrom, isArray, columnTo, arrayTo, valueTo, flagTo, typeNamesTo};
 ghost use Rattle.union_ffi.specs.Builders.{builderColumnFrom, builderFrom, isBuilder, builderColumnTo, builderTo};
 use crate::CArray;
 use crate::CBuilder;

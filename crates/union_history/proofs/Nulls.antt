@@ -17,7 +17,7 @@ use Rattle.bitmap.proofs.Tables.{every-all}
 use Rattle.bitmap.proofs.Words.{count-ext}
 use Rattle.union_array.specs.Buffers.{Buffers, amountsOf}
 use Rattle.union_array.specs.Lookup.{columnValue}
-use Rattle.union_array.specs.Questions.{checked, namedAt, offsetFits, question6, question7, question8, slotChecked, withinChild}
+use Rattle.union_array.specs.Questions.{asked, checked, namedAt, offsetFits, question7, question8, slotChecked, withinChild}
 use Rattle.union_array.specs.Slots.{all, childAt, columnOf, inUse, isSome, nullIn, nullsIn, offsetAt, present, slotNull, typeIdAt}
 use Rattle.union_array.specs.Types.{byLayout}
 use Rattle.union_array.specs.declared.Column.{Column}
@@ -33,7 +33,9 @@ use Rattle.logical_nulls.specs.declared.SparseStrategy.{SparseStrategy}
 use Rattle.logical_nulls.specs.declared.SparseStrategy.the-variants.{Gather, SkipFullyNull, SkipOne, SkipWithoutNulls}
 use Rattle.union_history.specs.Claim.{Marks}
 use Rattle.union_history.proofs.Yes.{and-both}
-use Rattle.union_history.proofs.Slices.{Good, all-at, good-asked, slot-asked, told}
+use Rattle.union_array.proofs.Accepted.{accepted}
+use Rattle.union_array.proofs.Columns.{all-found}
+use Rattle.union_array.proofs.SlicedSlots.{slot-asked, told}
 
 -- ---- a slot that `value` answers: its child is found, its slot is in it, and it is null exactly if the answer is `missing`
 pub record Slot (a : UnionArray) (m : Buffers) (i : ℕ) (missing : Bool) : Type 0 where
@@ -56,7 +58,7 @@ pub slot-of : (a : UnionArray) (m : Buffers) (i : ℕ) (v : Value) → told (a .
 unfolding slotNull
 slot-of a m i v e z = let r = told-slot (a .layout) m (childAt a m i) (offsetAt a m i) i v e z in record { found = r .0; inside = r .1; isNull = r .2 }
 
-pub slot-passes : (a : UnionArray) (m : Buffers) (i : ℕ) (missing : Bool) → Good a (amountsOf m) → i < a .count → Slot a m i missing → slotChecked a m i ≡ 0
+pub slot-passes : (a : UnionArray) (m : Buffers) (i : ℕ) (missing : Bool) → asked a (amountsOf m) ≡ 0 → i < a .count → Slot a m i missing → slotChecked a m i ≡ 0
 slot-passes a m i missing g h s = slot-asked a m i g h ∙ rw (s .found, s .inside)
 
 -- ---- counting
@@ -71,13 +73,13 @@ none-has p (c ∷ cs) e =
     and-both (not (p c)) (all (λ c. not (p c)) cs) (rw f) (none-has p cs (omega arith))
 
 -- ---- no null in any child: no slot is null
-within-child : (l : Layout) (cs : List Column) (n i : ℕ) (x z : ℤ) (c : Column) → byLayout l (all (λ c. eqb (c .slots) n) cs) true ≡ true → i < n
+within-child : (l : Layout) (cs : List Column) (n i : ℕ) (x z : ℤ) (c : Column) → (l ≡ Sparse → all (λ c. eqb (c .slots) n) cs ≡ true) → i < n
     → byLayout l true (withinChild z (some c)) ≡ true → columnOf cs x ≡ some c → byLayout l i (natAbs z) < c .slots
-within-child Sparse cs n i x z c s h w e = let q : c .slots ≡ n = eqb-true (c .slots) n (all-at (λ c. eqb (c .slots) n) cs x c s e) in omega arith
+within-child Sparse cs n i x z c s h w e = let q : c .slots ≡ n = eqb-true (c .slots) n (all-found (λ c. eqb (c .slots) n) cs x c (s refl) e) in omega arith
 within-child Dense cs n i x (pos k) c s h w e = ltb-true k (c .slots) w
 within-child Dense cs n i x (negsuc k) c s h w e = absurd (false≢true w)
 
-module _ (m : Buffers) (l : Layout) (cs : List Column) (n i : ℕ) (x z : ℤ) (s : byLayout l (all (λ c. eqb (c .slots) n) cs) true ≡ true) (h : i < n)
+module _ (m : Buffers) (l : Layout) (cs : List Column) (n i : ℕ) (x z : ℤ) (s : l ≡ Sparse → all (λ c. eqb (c .slots) n) cs ≡ true) (h : i < n)
     (w : byLayout l true (withinChild z (columnOf cs x)) ≡ true) where
   no-null : (p : Column → Bool) → all p cs ≡ true → ((c : Column) (t : ℕ) → p c ≡ true → t < c .slots → not (present c m t) ≡ false)
       → nullIn (columnOf cs x) m (byLayout l i (natAbs z)) ≡ false
@@ -85,7 +87,7 @@ module _ (m : Buffers) (l : Layout) (cs : List Column) (n i : ℕ) (x z : ℤ) (
     where
       go : (c : Option Column) → columnOf cs x ≡ c → byLayout l true (withinChild z c) ≡ true → nullIn c m (byLayout l i (natAbs z)) ≡ false
       go none e q = refl
-      go (some c) e q = f c (byLayout l i (natAbs z)) (all-at p cs x c a e) (within-child l cs n i x z c s h q e)
+      go (some c) e q = f c (byLayout l i (natAbs z)) (all-found p cs x c a e) (within-child l cs n i x z c s h q e)
 
 cheaper-route : (best : Choice) (may : Bool) (cost r : ℕ) → (best .route ≡ 0 → ⊥) → (r ≡ 0 → ⊥) → (cheaper best may cost r) .route ≡ 0 → ⊥
 cheaper-route best may cost r h k e = go (may && ltb cost (best .cost)) e
@@ -102,7 +104,7 @@ sparse-route g n m f e =
     (cheaper-route (cheaper first (eqb m n) (n - 1) 4) true m 5
     (cheaper-route first (eqb m n) (n - 1) 4 (λ z. omega arith) (λ z. omega arith)) (λ z. omega arith)) (λ z. omega arith) e
 
-module _ (a : UnionArray) (m : Buffers) (g : Good a (amountsOf m)) (missing : ℕ → Bool) (slots : (i : ℕ) → i < a .count → Slot a m i (missing i)) where
+module _ (a : UnionArray) (m : Buffers) (g : asked a (amountsOf m) ≡ 0) (missing : ℕ → Bool) (slots : (i : ℕ) → i < a .count → Slot a m i (missing i)) where
   -- whichever way the mask is made
   marks-with : (pr : Bool) (route : ℕ) (out : List ℕ) → (pr ≡ true → (i : ℕ) → i < a .count → bitAt out i ≡ not (slotNull a m i))
       → (pr ≡ false → (i : ℕ) → i < a .count → slotNull a m i ≡ false)
@@ -140,8 +142,8 @@ module _ (a : UnionArray) (m : Buffers) (g : Good a (amountsOf m)) (missing : �
   -- route 0 is taken only where nothing is null
   slot-free : (p : Column → Bool) → all p (inUse a) ≡ true → ((c : Column) (t : ℕ) → p c ≡ true → t < c .slots → not (present c m t) ≡ false)
       → (i : ℕ) → i < a .count → slotNull a m i ≡ false
-  unfolding slotNull question6
-  slot-free p e f i q = no-null m (a .layout) (inUse a) (a .count) i (typeIdAt a m i) (offsetAt a m i) (g .q6) q ((slots i q) .inside) p e f
+  unfolding slotNull
+  slot-free p e f i q = no-null m (a .layout) (inUse a) (a .count) i (typeIdAt a m i) (offsetAt a m i) ((accepted a (amountsOf m) g) .equal) q ((slots i q) .inside) p e f
 
   unmasked : all (λ c. not (c .masked)) (inUse a) ≡ true → (i : ℕ) → i < a .count → slotNull a m i ≡ false
   unfolding present
@@ -174,7 +176,7 @@ module _ (a : UnionArray) (m : Buffers) (g : Good a (amountsOf m)) (missing : �
   unfolding checked question7 question8
   passes =
       rw (
-        good-asked a (amountsOf m) g,
+        g,
         every-all (a .count) (namedAt a m) (λ i q. (slots i q) .found),
         every-all (a .count) (offsetFits a m) (λ i q. (slots i q) .inside),
       )

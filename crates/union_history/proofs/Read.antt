@@ -14,7 +14,7 @@ use borrow.Author.Tests.{le-leb, lt-ltb}
 use Rattle.bitmap.specs.Bits.{bitAt, wordsFor}
 use Rattle.union_array.specs.Buffers.{Buffers, amountsOf}
 use Rattle.union_array.specs.Lookup.{columnValue, padded, typeIdOf, valueOf, valueOffsetOf}
-use Rattle.union_array.specs.Questions.{columnIn, partIn, question1, question3, question4, question5, question6, slotChecked, validId}
+use Rattle.union_array.specs.Questions.{asked, columnIn, partIn, question1, question3, question4, question5, question6, slotChecked, validId}
 use Rattle.union_array.specs.Refusal.{ifYes}
 use Rattle.union_array.specs.Slots.{all, childAt, columnOf, inUse, isSome, offsetAt, present, slotAt, typeIdAt}
 use Rattle.union_array.specs.Types.{byLayout, noColumn}
@@ -35,7 +35,8 @@ use Rattle.union_history.proofs.Counts.{countOf-before, countOf-rise, e
 use Rattle.union_history.proofs.Inv.{Counted, Held, Holds, Limits, logOf, ownSlot}
 use Rattle.union_history.proofs.Step.{Lent, slotsOf-le}
 use Rattle.union_history.proofs.Order.{columnsOf, ordered-all, ordered-column, ordered-distinct, ordered-length}
-use Rattle.union_history.proofs.Slices.{Good, chain-count, chain-good, chain-layout, chain-offsets, chain-start, chain-value, slice-accepted, told, value-told}
+use Rattle.union_array.proofs.SlicedSlots.{told, value-told}
+use Rattle.union_history.proofs.Slices.{Yes, all-yes, chain-asked, chain-count, chain-layout, chain-offsets, chain-start, chain-value, slice-accepted}
 use Rattle.union_history.proofs.Nulls.{Slot, mask-marks, passes, slot-of, slot-passes, strategy-marks}
 
 -- ---- missing or not
@@ -141,9 +142,9 @@ module _ (l : Layout) (C K : ℕ) (cols : List LogColumn) (es : List Entry) (cs 
   unfolding logArray assembled
   in-use = take-at ch (replicate (128 - length cols) noColumn) (length cols) (length-map (ordered (length cols) row) (λ c. c .column) ∙ ordered-length (length cols) row)
 
-  good : Good (logArray l bk) (amountsOf m)
+  yes-all : Yes (logArray l bk) (amountsOf m)
   unfolding logArray assembled question1 question3 question4 question5 question6
-  good =
+  yes-all =
       let n : ℕ = length es in
       let w : length cols ≤ 128 = (omega (arith, inv .countFits, lim .mostRoom)) in
       let w₁ : 0 + n ≤ length (m .ids) = omega (arith, inv .lenFits, lent .ids) in
@@ -163,6 +164,9 @@ module _ (l : Layout) (C K : ℕ) (cols : List LogColumn) (es : List Entry) (cs 
         q5 = offsets-match l n;
         q6 = rw in-use (slots-in l es (length cols) row (λ k. refl));
       }
+
+  good : asked (logArray l bk) (amountsOf m) ≡ 0
+  good = all-yes (logArray l bk) (amountsOf m) yes-all
 
   column-entry : (i : ℕ) → i < length es → columnValue (logColumn l bk ((getD es i noEntry) .id)) m (ownSlot l es i) ≡ entryValue (getD es i noEntry)
   unfolding columnValue present
@@ -220,8 +224,8 @@ module _ (l : Layout) (C K : ℕ) (cols : List LogColumn) (es : List Entry) (cs 
     part-count : part .count ≡ n
     part-count = chain-count (logArray l bk) ps k ∙ ap (λ (x : ℕ). lastCount x ps) log-count
 
-    part-good : Good part (amountsOf m)
-    part-good = chain-good (logArray l bk) (amountsOf m) ps good k
+    part-good : asked part (amountsOf m) ≡ 0
+    part-good = chain-asked (logArray l bk) (amountsOf m) ps good k
 
     part-in : (i : ℕ) → i < part .count → sumOf ps + i < length es
     part-in i h = rw log-count at ((chain-value (logArray l bk) m ps i good k h) .0)

@@ -1,25 +1,17 @@
-use mathlib.Core.Path.{_≡_, refl, sym, ap, _∙_}
+-- A refusal changes nothing; an accepted plan can be written, and the builder grows by it. Assumes nothing.
 use borrow.Author.Needs.{needs}
 use Rattle.union_array.specs.Buffers.{buffersOf}
-use Rattle.union_builder.specs.Inner.{valueOf}
+use Rattle.union_builder.specs.Writing.{valueOf}
 use Rattle.union_builder.proofs.Appending.{append-no, append-writable, append-sound, append-yes}
 use Rattle.union_builder.proofs.append.append_slot.Statement.{statement}
 use Rattle.union_builder.proofs.append.append_slot.Tie as tie
-use Rattle.union_builder.proofs.append.append_slot.Reads as reads
-use Rattle.union_builder.proofs.append.append_slot.Lts as lts
-use Rattle.union_builder.proofs.columns.grow.Reads as grow-reads
-use Rattle.union_builder.proofs.planning.plan.Reads as plan-reads
-use Rattle.union_builder.proofs.store.store.Reads as store-reads
 
--- src/append.rt:38:9
 plan-requires : tie.Need-plan-requires
 plan-requires c κs = search needs
 
--- src/append.rt:40:9
 same-length : tie.Need-same-length
 same-length c = search needs
 
--- src/append.rt:40:9
 returns : tie.Need-returns
 returns c =
     let a = c .before .before .before .before .before .before .before .before .args in
@@ -27,7 +19,6 @@ returns c =
     let p = c .before .before .plan in
     append-no (a .b) m (a .name .now) (a .kind) (p .result) (p .ensures) (valueOf (a .present) (a .word)) (c .if1 .taken)
 
--- src/append.rt:45:5
 store-requires : tie.Need-store-requires
 store-requires c κs =
     let a = c .before .before .before .before .before .before .before .before .before .before .before .before .before .args in
@@ -35,7 +26,6 @@ store-requires c κs =
     let p = c .before .before .before .before .before .before .before .plan in
     append-writable (a .b) m (a .name .now) (a .kind) (p .result) (p .ensures) (c .before .before .before .before .before .if1 .left)
 
--- src/append.rt:47:18
 grow-requires : tie.Need-grow-requires
 grow-requires c κs =
     let a = c .before .before .before .before .before .before .before .before .before .before .before .before .before .before .before .before .before .before .before .before .before .before .args in
@@ -43,27 +33,21 @@ grow-requires c κs =
     let p = c .before .before .before .before .before .before .before .before .before .before .before .before .before .before .before .before .plan in
     append-sound (a .b) m (a .name .now) (a .kind) (p .result) (p .ensures) (c .before .before .before .before .before .before .before .before .before .before .before .before .before .before .if1 .left)
 
--- src/append.rt:15:1
 same-length-2 : tie.Need-same-length-2
 same-length-2 c = search needs
 
--- src/append.rt:15:1
 same-length-3 : tie.Need-same-length-3
 same-length-3 c = search needs
 
--- src/append.rt:15:1
 same-length-4 : tie.Need-same-length-4
 same-length-4 c = search needs
 
--- src/append.rt:15:1
 same-length-5 : tie.Need-same-length-5
 same-length-5 c = search needs
 
--- src/append.rt:15:1
 same-length-6 : tie.Need-same-length-6
 same-length-6 c = search needs
 
--- src/append.rt:15:1
 returns-2 : tie.Need-returns-2
 returns-2 c =
     let a = c .before .before .before .before .before .before .before .before .before .before .before .before .before .before .before .before .before .before .before .before .before .before .before .args in

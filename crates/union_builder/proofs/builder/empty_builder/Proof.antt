@@ -1,18 +1,14 @@
-use mathlib.Core.Path.{_≡_, refl, sym, ap, _∙_}
+-- By what no_column ensures. Assumes nothing.
+use mathlib.Core.Path.{ap}
 use borrow.Author.Needs.{needs}
 use lib.ListN.{replicate}
 use Rattle.union_builder.specs.Builder.{BuilderColumn}
 use Rattle.union_builder.proofs.builder.empty_builder.Statement.{statement}
 use Rattle.union_builder.proofs.builder.empty_builder.Tie as tie
-use Rattle.union_builder.proofs.builder.empty_builder.Reads as reads
-use Rattle.union_builder.proofs.builder.empty_builder.Lts as lts
-use Rattle.union_builder.proofs.find.no_column.Reads as no-column-reads
 
--- src/builder.rt:24:9
 no-column-requires : tie.Need-no-column-requires
 no-column-requires c κs = search needs
 
--- src/builder.rt:21:1
 returns : tie.Need-returns
 returns c =
     let a = c .before .args in

@@ -1,23 +1,16 @@
-use mathlib.Core.Path.{_≡_, refl, sym, ap, _∙_}
+-- By the number of builder_checked. Assumes nothing.
 use borrow.Author.Needs.{needs}
 use Rattle.union_array.specs.Buffers.{buffersOf}
 use Rattle.union_builder.proofs.Making.{made-yes, made-no}
 use Rattle.union_builder.proofs.builder.made.Statement.{statement}
 use Rattle.union_builder.proofs.builder.made.Tie as tie
-use Rattle.union_builder.proofs.builder.made.Reads as reads
-use Rattle.union_builder.proofs.builder.made.Lts as lts
-use Rattle.union_builder.proofs.builder.empty_builder.Reads as empty-builder-reads
-use Rattle.union_builder.proofs.questions.builder_checked.Reads as builder-checked-reads
 
--- src/builder.rt:49:9
 empty-builder-requires : tie.Need-empty-builder-requires
 empty-builder-requires c κs = search needs
 
--- src/builder.rt:57:9
 builder-checked-requires : tie.Need-builder-checked-requires
 builder-checked-requires c κs = search needs
 
--- src/builder.rt:59:9
 returns : tie.Need-returns
 returns c =
     let a = c .before .before .before .before .before .before .args in
@@ -26,11 +19,9 @@ returns c =
     let n = c .before .builder-checked in
     made-yes (a .layout) (a .capacity) (a .limit) m (e .result) (e .ensures) (n .result) (n .ensures) (c .if1 .taken)
 
--- src/builder.rt:66:18
 empty-builder-requires-2 : tie.Need-empty-builder-requires-2
 empty-builder-requires-2 c κs = search needs
 
--- src/builder.rt:37:1
 returns-2 : tie.Need-returns-2
 returns-2 c =
     let a = c .before .before .before .before .before .before .before .args in

@@ -1,33 +1,23 @@
-use mathlib.Core.Path.{_≡_, refl, sym, ap, _∙_}
-use Prim.Native.Nat.{ℕ, _+_, _≤_, _<_}
-use native.Mathlib.Omega.{arith}
+-- Sparse: a row over the stored column. Dense: one store. Assumes nothing.
+use mathlib.Core.Path.{_≡_, sym, ap, _∙_}
 use borrow.Author.Needs.{needs}
 use lib.ListN.{length, length-map}
 use Rattle.union_builder.proofs.Growing.{stored, settled-sparse, settled-dense, short-stored}
 use Rattle.union_builder.proofs.columns.grow.Statement.{statement}
 use Rattle.union_builder.proofs.columns.grow.Tie as tie
-use Rattle.union_builder.proofs.columns.grow.Reads as reads
-use Rattle.union_builder.proofs.columns.grow.Lts as lts
-use Rattle.union_builder.proofs.columns.grow_row.Reads as grow-row-reads
-use Rattle.union_builder.proofs.columns.grown_column.Reads as grown-column-reads
 
--- src/columns.rt:74:13
 add-b : tie.Need-add-b
 add-b c = search needs
 
--- src/columns.rt:78:13
 enum-told : tie.Need-enum-told
 enum-told c = search needs
 
--- src/columns.rt:78:13
 mul-c : tie.Need-mul-c
 mul-c c = search needs
 
--- src/columns.rt:78:13
 element-set-from-c : tie.Need-element-set-from-c
 element-set-from-c c = search needs
 
--- src/columns.rt:79:13
 grow-row-requires : tie.Need-grow-row-requires
 grow-row-requires c κs =
     let b = c .before .before .before .args .t1 in
@@ -35,23 +25,18 @@ grow-row-requires c κs =
     let full : length (b .columns) ≡ 128 = sym (length-map (b .columns) _) ∙ c .before .before .before .good .0 .1 .1 .0 .1 .0 .1 in
     short-stored b (c .before .before .before .args .p) (c .before .before .before .args .present) full (s .few) (s .used) (s .slots) (s .others)
 
--- src/columns.rt:82:45
 enum-told-2 : tie.Need-enum-told-2
 enum-told-2 c = search needs
 
--- src/columns.rt:82:29
 grown-column-requires : tie.Need-grown-column-requires
 grown-column-requires c κs = search needs
 
--- src/columns.rt:82:13
 mul-t17 : tie.Need-mul-t17
 mul-t17 c = search needs
 
--- src/columns.rt:82:13
 element-set-from-b : tie.Need-element-set-from-b
 element-set-from-b c = search needs
 
--- src/columns.rt:67:1
 returns : tie.Need-returns
 returns c =
     let b = c .before .before .before .before .args .t1 in
@@ -59,7 +44,6 @@ returns c =
     let full : length (b .columns) ≡ 128 = sym (length-map (b .columns) _) ∙ c .before .before .before .before .good .0 .1 .1 .0 .1 .0 .1 in
     c .grow-row .ensures ∙ settled-sparse b (c .before .before .before .before .args .p) (c .before .before .before .before .args .present) full (s .few) (s .used) (c .before .enum-told .given .1)
 
--- src/columns.rt:67:1
 returns-2 : tie.Need-returns-2
 returns-2 c =
     let b = c .before .before .before .before .args .t1 in

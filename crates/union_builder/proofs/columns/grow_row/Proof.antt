@@ -1,18 +1,15 @@
-use mathlib.Core.Path.{_≡_, refl, sym, ap, _∙_}
-use Prim.Native.Nat.{ℕ, _+_, _-_, _≤_, _<_}
+-- The columns before k have a slot more, the later ones are as they were. Assumes nothing.
+use mathlib.Core.Path.{_≡_, sym, ap, _∙_}
+use Prim.Native.Nat.{_-_, _≤_}
 use native.Mathlib.Nat.{le-antisymm}
 use native.Mathlib.Omega.{arith}
 use borrow.Author.Needs.{needs}
 use lib.ListN.{length, length-map}
 use Rattle.bitmap.proofs.Tables.{retable-none}
-use Rattle.union_builder.specs.Inner.{withColumns, rowAfter}
+use Rattle.union_builder.specs.Planning.{withColumns, rowAfter}
 use Rattle.union_builder.proofs.Growing.{row-turn, row-column}
 use Rattle.union_builder.proofs.columns.grow_row.Statement.{statement}
 use Rattle.union_builder.proofs.columns.grow_row.Tie as tie
-use Rattle.union_builder.proofs.columns.grow_row.Reads as reads
-use Rattle.union_builder.proofs.columns.grow_row.Lts as lts
-use Rattle.union_builder.proofs.columns.grown_column.Reads as grown-column-reads
-use Rattle.union_builder.proofs.slots.in_column.Reads as in-column-reads
 
 abbrev Inv-loop : tie.InvT-loop
 Inv-loop id present b₀ n k₀ b k = (k ≤ b₀ .count) × (b ≡ withColumns b₀ (rowAfter b₀ k id present))
@@ -20,46 +17,36 @@ Inv-loop id present b₀ n k₀ b k = (k ≤ b₀ .count) × (b ≡ withColumns 
 abbrev μ-loop : tie.MeasureT-loop
 μ-loop id present b₀ n k₀ b k = n - k
 
--- src/columns.rt:59:5
 loop-holds : tie.Need-loop-holds Inv-loop μ-loop
 loop-holds c = (omega arith, ap (withColumns (c .args .t1)) (sym (retable-none _ _)))
 
--- src/columns.rt:60:17
 mul-c : tie.Need-mul-c Inv-loop μ-loop
 mul-c c = search needs
 
--- src/columns.rt:60:17
 element-copy-out-c : tie.Need-element-copy-out-c Inv-loop μ-loop
 element-copy-out-c c = search needs
 
--- src/columns.rt:61:41
 in-column-requires : tie.Need-in-column-requires Inv-loop μ-loop
 in-column-requires c κs = search needs
 
--- src/columns.rt:61:24
 grown-column-requires : tie.Need-grown-column-requires Inv-loop μ-loop
 grown-column-requires c κs =
     let l = c .before .before .before .loop in
     let b = c .before .before .before .before .args .t1 in
     rw (row-column b (l .b) (l .k) (c .before .before .before .before .args .id) (c .before .before .before .before .args .present) (l .inv .1)) (c .before .before .before .before .pre .slots (l .k) (omega arith))
 
--- src/columns.rt:61:9
 mul-t9 : tie.Need-mul-t9 Inv-loop μ-loop
 mul-t9 c = search needs
 
--- src/columns.rt:61:9
 element-set-from-b : tie.Need-element-set-from-b Inv-loop μ-loop
 element-set-from-b c = search needs
 
--- src/columns.rt:59:9
 add-k : tie.Need-add-k Inv-loop μ-loop
 add-k c = omega arith
 
--- src/columns.rt:59:5
 loop-less : tie.Need-loop-less Inv-loop μ-loop
 loop-less c = omega arith
 
--- src/columns.rt:59:5
 loop-again : tie.Need-loop-again Inv-loop μ-loop
 loop-again c =
     let l = c .before .before .before .before .loop in
@@ -69,7 +56,6 @@ loop-again c =
     let full : length (b .columns) ≡ 128 = sym (length-map (b .columns) _) ∙ c .before .before .before .before .before .good .0 .1 .1 .0 .1 .0 .1 in
     (omega arith, row-turn b (l .b) (l .k) (a .id) (a .present) (r .result) (c .grown-column .result) (omega arith) (l .inv .1) (r .ensures) (c .grown-column .ensures))
 
--- src/columns.rt:54:1
 returns : tie.Need-returns Inv-loop μ-loop
 returns c = let past = le-antisymm (c .before .loop .inv .0) (c .loop-test .left) in rw past at (c .before .loop .inv .1)
 

@@ -1,19 +1,15 @@
+-- Whether there is a mask, by what was tested. Assumes nothing.
 use borrow.Author.Needs.{needs}
 use Rattle.union_builder.proofs.Growing.{grown-is, or-yes, or-no}
 use Rattle.union_builder.proofs.columns.grown_column.Statement.{statement}
 use Rattle.union_builder.proofs.columns.grown_column.Tie as tie
-use Rattle.union_builder.proofs.columns.grown_column.Reads as reads
-use Rattle.union_builder.proofs.columns.grown_column.Lts as lts
 
--- src/columns.rt:46:16
 add-t5 : tie.Need-add-t5
 add-t5 c = search needs
 
--- src/columns.rt:40:1
 returns : tie.Need-returns
 returns c = let a = c .before .args in grown-is (a .c) (a .null) _ (or-yes _ _ (c .if1 .taken))
 
--- src/columns.rt:40:1
 returns-2 : tie.Need-returns-2
 returns-2 c = let a = c .before .args in grown-is (a .c) (a .null) _ (or-no _ _ (c .if1 .left))
 

@@ -1,22 +1,18 @@
-use mathlib.Core.Path.{_≡_, refl, sym, ap, _∙_}
-use mathlib.Core.Bool.{true, false, _&&_}
-use Prim.Native.Nat.{ℕ, _+_, _-_, _*_, _≤_, _<_}
+-- The columns before k fit, and what was found is the first of them with the name. Assumes nothing.
+use mathlib.Core.Path.{_≡_, refl, sym, _∙_}
+use mathlib.Core.Bool.{true}
+use Prim.Native.Nat.{_-_, _≤_}
 use native.Mathlib.Nat.{le-antisymm}
 use borrow.Author.Needs.{needs}
 use native.Mathlib.Omega.{arith}
 use Rattle.bitmap.specs.Lists.{every}
 use Rattle.bitmap.proofs.Tables.{every-no, every-more}
-use Rattle.union_builder.specs.Builder.{columnFits, column}
-use Rattle.union_builder.specs.Inner.{foundIn}
+use Rattle.union_builder.specs.Builder.{columnFits}
+use Rattle.union_builder.specs.Finding.{foundIn}
 use Rattle.union_builder.proofs.Asking.{fits-column, denied, granted, column-yes}
 use Rattle.union_builder.proofs.Places.{firstOf, matches, sought, looked, not-looked}
 use Rattle.union_builder.proofs.find.look.Statement.{statement}
 use Rattle.union_builder.proofs.find.look.Tie as tie
-use Rattle.union_builder.proofs.find.look.Reads as reads
-use Rattle.union_builder.proofs.find.look.Lts as lts
-use Rattle.union_builder.proofs.find.none_found.Reads as none-found-reads
-use Rattle.union_builder.proofs.find.seek.Reads as seek-reads
-use Rattle.union_builder.proofs.questions.column_fits.Reads as column-fits-reads
 
 abbrev Inv-loop : tie.InvT-loop
 Inv-loop names name search b n layout f₀ k₀ f k = (k ≤ b .count) × (every k (columnFits b) ≡ true) × (f ≡ foundIn b (firstOf k (matches b names name search)))
@@ -24,31 +20,24 @@ Inv-loop names name search b n layout f₀ k₀ f k = (k ≤ b .count) × (every
 abbrev μ-loop : tie.MeasureT-loop
 μ-loop names name search b n layout f₀ k₀ f k = n - k
 
--- src/find.rt:69:9
 none-found-requires : tie.Need-none-found-requires Inv-loop μ-loop
 none-found-requires c κs = search needs
 
--- src/find.rt:70:5
 loop-holds : tie.Need-loop-holds Inv-loop μ-loop
 loop-holds c = (omega arith, refl, c .none-found .ensures)
 
--- src/find.rt:71:17
 mul-c : tie.Need-mul-c Inv-loop μ-loop
 mul-c c = search needs
 
--- src/find.rt:71:17
 element-copy-out-c : tie.Need-element-copy-out-c Inv-loop μ-loop
 element-copy-out-c c = search needs
 
--- src/find.rt:72:13
 column-fits-requires : tie.Need-column-fits-requires Inv-loop μ-loop
 column-fits-requires c κs = search needs
 
--- src/find.rt:73:13
 none-found-requires-2 : tie.Need-none-found-requires-2 Inv-loop μ-loop
 none-found-requires-2 c κs = search needs
 
--- src/find.rt:73:13
 returns : tie.Need-returns Inv-loop μ-loop
 returns c =
     let a = c .before .before .before .before .before .before .before .before .before .args in
@@ -57,7 +46,6 @@ returns c =
     let e = sym (fits-column b k) ∙ denied (c .before .before .column-fits .ensures) (c .before .if1 .taken) in
     c .none-found2 .ensures ∙ not-looked b (a .names .now) (a .name .now) (a .search) (every-no (b .count) (columnFits b) k (omega arith) e)
 
--- src/find.rt:75:9
 seek-requires : tie.Need-seek-requires Inv-loop μ-loop
 seek-requires c κs =
     let a = c .before .before .before .before .before .before .before .before .args in
@@ -66,15 +54,12 @@ seek-requires c κs =
     let f = column-yes b k (sym (fits-column b k) ∙ granted (c .before .column-fits .ensures) (c .if1 .left)) in
     (omega arith, f .size, λ s. let h = c .before .before .before .before .before .before .before .before .pre .1 s in omega arith)
 
--- src/find.rt:70:9
 add-k : tie.Need-add-k Inv-loop μ-loop
 add-k c = omega arith
 
--- src/find.rt:70:5
 loop-less : tie.Need-loop-less Inv-loop μ-loop
 loop-less c = omega arith
 
--- src/find.rt:70:5
 loop-again : tie.Need-loop-again Inv-loop μ-loop
 loop-again c =
     let a = c .before .before .before .before .before .before .before .before .before .args in
@@ -86,7 +71,6 @@ loop-again c =
       c .seek .ensures ∙ sought b (a .names .now) (a .name .now) (a .search) (c .before .before .before .before .before .loop .f) k (c .before .before .before .before .before .loop .inv .2),
     )
 
--- src/find.rt:63:1
 returns-2 : tie.Need-returns-2 Inv-loop μ-loop
 returns-2 c =
     let a = c .before .before .before .before .before .args in

@@ -1,16 +1,11 @@
-use mathlib.Core.Path.{_≡_, refl, sym, ap, _∙_}
+-- By what no_column ensures. Assumes nothing.
 use borrow.Author.Needs.{needs}
 use Rattle.union_builder.proofs.find.none_found.Statement.{statement}
 use Rattle.union_builder.proofs.find.none_found.Tie as tie
-use Rattle.union_builder.proofs.find.none_found.Reads as reads
-use Rattle.union_builder.proofs.find.none_found.Lts as lts
-use Rattle.union_builder.proofs.find.no_column.Reads as no-column-reads
 
--- src/find.rt:33:17
 no-column-requires : tie.Need-no-column-requires
 no-column-requires c κs = search needs
 
--- src/find.rt:29:1
 returns : tie.Need-returns
 returns c = cc
 

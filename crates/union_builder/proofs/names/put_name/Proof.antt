@@ -1,15 +1,14 @@
+-- The first i bytes are copied. Assumes nothing.
 use mathlib.Core.Path.{_≡_, refl, sym, ap, _∙_}
-use Prim.Native.Nat.{ℕ, _+_, _-_, _≤_, _<_}
+use Prim.Native.Nat.{_+_, _-_, _≤_}
 use native.Mathlib.Nat.{le-antisymm}
 use native.Mathlib.Numerals.{add-one}
 use native.Mathlib.Omega.{arith}
 use borrow.Author.Needs.{needs}
 use lib.ListN.{length, set, getD, length-set}
-use lib.Seq.{paste, paste-zero, paste-suc, length-paste}
+use lib.Seq.{paste, paste-zero, paste-suc}
 use Rattle.union_builder.proofs.names.put_name.Statement.{statement}
 use Rattle.union_builder.proofs.names.put_name.Tie as tie
-use Rattle.union_builder.proofs.names.put_name.Reads as reads
-use Rattle.union_builder.proofs.names.put_name.Lts as lts
 
 abbrev Inv-loop : tie.InvT-loop
 Inv-loop names₀ at name i₀ i-end names i = (i-end ≡ length name) × (i ≤ length name) × (length names ≡ length names₀) × (names ≡ paste names₀ at name i)
@@ -17,31 +16,24 @@ Inv-loop names₀ at name i₀ i-end names i = (i-end ≡ length name) × (i ≤
 abbrev μ-loop : tie.MeasureT-loop
 μ-loop names₀ at name i₀ i-end names i = length name - i
 
--- src/names.rt:29:5
 loop-holds : tie.Need-loop-holds Inv-loop μ-loop
 loop-holds c = (search needs, omega arith, refl, paste-zero (c .args .names .now) (c .args .at) (c .args .name .now))
 
--- src/names.rt:30:25
 shared-slice-read-names : tie.Need-shared-slice-read-names Inv-loop μ-loop
 shared-slice-read-names c = omega arith
 
--- src/names.rt:30:15
 add-names : tie.Need-add-names Inv-loop μ-loop
 add-names c = omega arith
 
--- src/names.rt:30:9
 slice-write-names : tie.Need-slice-write-names Inv-loop μ-loop
 slice-write-names c = omega arith
 
--- src/names.rt:29:9
 add-i : tie.Need-add-i Inv-loop μ-loop
 add-i c = omega arith
 
--- src/names.rt:29:5
 loop-less : tie.Need-loop-less Inv-loop μ-loop
 loop-less c = omega arith
 
--- src/names.rt:29:5
 loop-again : tie.Need-loop-again Inv-loop μ-loop
 loop-again c =
     let l = c .before .before in
@@ -55,11 +47,9 @@ loop-again c =
           ∙ ap (paste (a .names .now) (a .at) (a .name .now)) (sym (add-one i)),
     )
 
--- src/names.rt:25:1
 same-length : tie.Need-same-length Inv-loop μ-loop
 same-length c = c .before .loop .inv .2
 
--- src/names.rt:25:1
 returns : tie.Need-returns Inv-loop μ-loop
 returns c =
     let a = c .before .before .args in

@@ -1,51 +1,52 @@
+-- The first no of 15, in its two parts, and 16. Assumes nothing.
 use mathlib.Core.Path.{_≡_, sym, _∙_}
 use mathlib.Core.Bool.{true, false}
 use native.Mathlib.Omega.{arith}
 use borrow.Author.Needs.{needs}
+use Rattle.bitmap.specs.Lists.{every}
+use Rattle.union_builder.specs.Builder.{UnionBuilder, columnFits}
+use Rattle.union_builder.specs.Finding.{numbersFit}
 use Rattle.union_builder.proofs.Asking.{denied, granted, no-numbers, no-columns, then-lent, numbers-yes}
 use Rattle.union_builder.proofs.questions.builder_checked.Statement.{statement}
 use Rattle.union_builder.proofs.questions.builder_checked.Tie as tie
-use Rattle.union_builder.proofs.questions.builder_checked.Reads as reads
-use Rattle.union_builder.proofs.questions.builder_checked.Lts as lts
-use Rattle.union_builder.proofs.questions.columns_fit.Reads as columns-fit-reads
-use Rattle.union_builder.proofs.questions.lent_fits.Reads as lent-fits-reads
-use Rattle.union_builder.proofs.questions.numbers_fit.Reads as numbers-fit-reads
 
--- src/questions.rt:90:9
+abbrev builder : tie.Else1 → UnionBuilder
+builder c = c .before .before .args .b
+
+numbers : (c : tie.Else1) → numbersFit (builder c .capacity) (builder c .limit) (builder c .len) (builder c .count) ≡ true
+numbers c = granted (c .before .numbers-fit .ensures) (c .if1 .left)
+
+columns : (c : tie.Else2) → every (builder (c .before .before) .count) (columnFits (builder (c .before .before))) ≡ true
+columns c = granted (c .before .columns-fit .ensures) (c .if2 .left)
+
 numbers-fit-requires : tie.Need-numbers-fit-requires
 numbers-fit-requires c κs = search needs
 
--- src/questions.rt:91:9
 returns : tie.Need-returns
 returns c = let a = c .before .before .args in no-numbers (a .b) (a .lent) (denied (c .before .numbers-fit .ensures) (c .if1 .taken))
 
--- src/questions.rt:93:9
 columns-fit-requires : tie.Need-columns-fit-requires
-columns-fit-requires c κs = let n = numbers-yes _ _ _ _ (granted (c .before .numbers-fit .ensures) (c .if1 .left)) in omega arith
+columns-fit-requires c κs = let n = numbers-yes _ _ _ _ (numbers c) in omega arith
 
--- src/questions.rt:94:9
 returns-2 : tie.Need-returns-2
 returns-2 c =
-    let a = c .before .before .before .before .args in
-    no-columns (a .b) (a .lent) (granted (c .before .before .before .numbers-fit .ensures) (c .before .before .if1 .left)) (denied (c .before .columns-fit .ensures) (c .if2 .taken))
+    let e = c .before .before in
+    no-columns (builder e) (e .before .before .args .lent) (numbers e) (denied (c .before .columns-fit .ensures) (c .if2 .taken))
 
--- src/questions.rt:96:8
 lent-fits-requires : tie.Need-lent-fits-requires
-lent-fits-requires c κs = let n = numbers-yes _ _ _ _ (granted (c .before .before .before .numbers-fit .ensures) (c .before .before .if1 .left)) in omega arith
+lent-fits-requires c κs = let n = numbers-yes _ _ _ _ (numbers (c .before .before)) in omega arith
 
--- src/questions.rt:87:1
 returns-3 : tie.Need-returns-3
 returns-3 c =
-    let a = c .before .before .before .before .before .before .args in
-    then-lent (a .b) (a .lent) true (granted (c .before .before .before .before .before .numbers-fit .ensures) (c .before .before .before .before .if1 .left))
-    (granted (c .before .before .before .columns-fit .ensures) (c .before .before .if2 .left)) (sym (c .before .lent-fits .ensures) ∙ c .if3 .taken)
+    let q = c .before .before in
+    let e = q .before .before in
+    then-lent (builder e) (e .before .before .args .lent) true (numbers e) (columns q) (sym (c .before .lent-fits .ensures) ∙ c .if3 .taken)
 
--- src/questions.rt:87:1
 returns-4 : tie.Need-returns-4
 returns-4 c =
-    let a = c .before .before .before .before .before .before .args in
-    then-lent (a .b) (a .lent) false (granted (c .before .before .before .before .before .numbers-fit .ensures) (c .before .before .before .before .if1 .left))
-    (granted (c .before .before .before .columns-fit .ensures) (c .before .before .if2 .left)) (sym (c .before .lent-fits .ensures) ∙ c .if3 .left)
+    let q = c .before .before in
+    let e = q .before .before in
+    then-lent (builder e) (e .before .before .args .lent) false (numbers e) (columns q) (sym (c .before .lent-fits .ensures) ∙ c .if3 .left)
 
 pub builder-checked-spec : {M : Type 1} → statement M
 builder-checked-spec =

@@ -1,39 +1,31 @@
+-- Each test is one part of question 15 for a column. Assumes nothing.
 use borrow.Author.Needs.{needs}
 use borrow.Author.Tests.{le-leb, lt-leb}
-use Rattle.union_builder.specs.Inner.{fits}
+use Rattle.union_builder.specs.Finding.{fits}
 use Rattle.union_builder.proofs.questions.column_fits.Statement.{statement}
 use Rattle.union_builder.proofs.questions.column_fits.Tie as tie
-use Rattle.union_builder.proofs.questions.column_fits.Reads as reads
-use Rattle.union_builder.proofs.questions.column_fits.Lts as lts
 
--- src/questions.rt:16:17
 cast-slots : tie.Need-cast-slots
 cast-slots c = search needs
 
--- src/questions.rt:18:9
 returns : tie.Need-returns
 unfolding fits
 returns c = simp (lt-leb _ _ (c .if1 .taken))
 
--- src/questions.rt:21:9
 returns-2 : tie.Need-returns-2
 unfolding fits
 returns-2 c = simp (le-leb _ _ (c .before .if1 .left), lt-leb _ _ (c .if2 .taken))
 
--- src/questions.rt:24:27
 enum-told : tie.Need-enum-told
 enum-told c = search needs
 
--- src/questions.rt:25:26
 enum-told-2 : tie.Need-enum-told-2
 enum-told-2 c = search needs
 
--- src/questions.rt:13:1
 returns-3 : tie.Need-returns-3
 unfolding fits
 returns-3 c = simp (le-leb _ _ (c .before .before .before .if1 .left), le-leb _ _ (c .before .before .if2 .left), c .enum-told .given .1)
 
--- src/questions.rt:13:1
 returns-4 : tie.Need-returns-4
 unfolding fits
 returns-4 c = simp (le-leb _ _ (c .before .before .before .if1 .left), le-leb _ _ (c .before .before .if2 .left), c .enum-told2 .given .1)

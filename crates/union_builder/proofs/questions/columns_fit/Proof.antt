@@ -1,6 +1,7 @@
+-- The columns before k fit. Assumes nothing.
 use mathlib.Core.Path.{_≡_, refl, sym, _∙_}
-use mathlib.Core.Bool.{true, false, _&&_}
-use Prim.Native.Nat.{ℕ, _+_, _-_, _≤_}
+use mathlib.Core.Bool.{true}
+use Prim.Native.Nat.{_-_, _≤_}
 use native.Mathlib.Nat.{le-antisymm}
 use native.Mathlib.Omega.{arith}
 use borrow.Author.Needs.{needs}
@@ -10,9 +11,6 @@ use Rattle.union_builder.specs.Builder.{columnFits}
 use Rattle.union_builder.proofs.Asking.{fits-column, denied, granted}
 use Rattle.union_builder.proofs.questions.columns_fit.Statement.{statement}
 use Rattle.union_builder.proofs.questions.columns_fit.Tie as tie
-use Rattle.union_builder.proofs.questions.columns_fit.Reads as reads
-use Rattle.union_builder.proofs.questions.columns_fit.Lts as lts
-use Rattle.union_builder.proofs.questions.column_fits.Reads as column-fits-reads
 
 abbrev Inv-loop : tie.InvT-loop
 Inv-loop b n layout k₀ k = (k ≤ n) × (every k (columnFits b) ≡ true)
@@ -20,38 +18,30 @@ Inv-loop b n layout k₀ k = (k ≤ n) × (every k (columnFits b) ≡ true)
 abbrev μ-loop : tie.MeasureT-loop
 μ-loop b n layout k₀ k = n - k
 
--- src/questions.rt:36:5
 loop-holds : tie.Need-loop-holds Inv-loop μ-loop
 loop-holds c = (omega arith, refl)
 
--- src/questions.rt:37:40
 mul-column-fits : tie.Need-mul-column-fits Inv-loop μ-loop
 mul-column-fits c = search needs
 
--- src/questions.rt:37:40
 element-copy-out-column-fits : tie.Need-element-copy-out-column-fits Inv-loop μ-loop
 element-copy-out-column-fits c = search needs
 
--- src/questions.rt:37:13
 column-fits-requires : tie.Need-column-fits-requires Inv-loop μ-loop
 column-fits-requires c κs = search needs
 
--- src/questions.rt:38:13
 returns : tie.Need-returns Inv-loop μ-loop
 returns c =
     let b = c .before .before .before .before .before .args .t1 in
     let k = c .before .before .before .before .loop .k in
     sym (every-no (b .count) (columnFits b) k (omega arith) (sym (fits-column b k) ∙ denied (c .before .column-fits .ensures) (c .if1 .taken)))
 
--- src/questions.rt:36:9
 add-k : tie.Need-add-k Inv-loop μ-loop
 add-k c = omega arith
 
--- src/questions.rt:36:5
 loop-less : tie.Need-loop-less Inv-loop μ-loop
 loop-less c = omega arith
 
--- src/questions.rt:36:5
 loop-again : tie.Need-loop-again Inv-loop μ-loop
 loop-again c =
     let b = c .before .before .before .before .before .args .t1 in
@@ -59,7 +49,6 @@ loop-again c =
     let e : columnFits b k ≡ true = sym (fits-column b k) ∙ granted (c .before .column-fits .ensures) (c .if1 .left) in
     (omega arith, every-more k (columnFits b) ∙ rw (c .before .before .before .before .loop .inv .1, e))
 
--- src/questions.rt:30:1
 returns-2 : tie.Need-returns-2 Inv-loop μ-loop
 returns-2 c =
     let past = le-antisymm (c .before .loop .inv .0) (c .loop-test .left) in

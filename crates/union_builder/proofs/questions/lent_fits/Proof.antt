@@ -1,4 +1,4 @@
-use Prim.Native.Nat.{ℕ, _*_, _≤_}
+-- Each test is one part of question 16; the products are small. Assumes nothing.
 use native.Mathlib.Omega.{arith}
 use borrow.Author.Needs.{needs}
 use borrow.Author.Tests.{le-leb, lt-leb}
@@ -6,50 +6,38 @@ use Rattle.union_builder.specs.Builder.{question16}
 use Rattle.union_builder.proofs.Asking.{small-product, words-small, last-16}
 use Rattle.union_builder.proofs.questions.lent_fits.Statement.{statement}
 use Rattle.union_builder.proofs.questions.lent_fits.Tie as tie
-use Rattle.union_builder.proofs.questions.lent_fits.Reads as reads
-use Rattle.union_builder.proofs.questions.lent_fits.Lts as lts
-use Rattle.bitmap.proofs.words_for.Reads as words-for-reads
 
--- src/questions.rt:72:9
 returns : tie.Need-returns
 unfolding question16
 returns c = simp (lt-leb _ _ (c .if1 .taken))
 
--- src/questions.rt:75:9
 returns-2 : tie.Need-returns-2
 unfolding question16
 returns-2 c = simp (le-leb _ _ (c .before .before .if1 .left), lt-leb _ _ (c .if2 .taken))
 
--- src/questions.rt:77:22
 mul-if3 : tie.Need-mul-if3
 mul-if3 c = let a = c .before .before .before .before .args in omega (arith, small-product (a .limit) (a .capacity) (omega arith) (omega arith))
 
--- src/questions.rt:78:9
 returns-3 : tie.Need-returns-3
 unfolding question16
 returns-3 c = simp (le-leb _ _ (c .before .before .before .before .if1 .left), le-leb _ _ (c .before .before .if2 .left), lt-leb _ _ (c .if3 .taken))
 
--- src/questions.rt:80:29
 words-for-requires : tie.Need-words-for-requires
 words-for-requires c κs = search needs
 
--- src/questions.rt:80:21
 mul-if4 : tie.Need-mul-if4
 mul-if4 c =
     let a = c .before .before .before .before .before .before .before .args in
     let w = words-small (a .capacity) (omega arith) in
     omega (arith, small-product (a .limit) (c .words-for .result) (omega arith) (omega (arith, c .words-for .ensures)))
 
--- src/questions.rt:81:9
 returns-4 : tie.Need-returns-4
 unfolding question16
 returns-4 c = simp (← c .before .before .words-for .ensures, le-leb _ _ (c .before .before .before .before .before .before .before .if1 .left), le-leb _ _ (c .before .before .before .before .before .if2 .left), le-leb _ _ (c .before .before .before .if3 .left), lt-leb _ _ (c .if4 .taken))
 
--- src/questions.rt:83:5
 mul-result : tie.Need-mul-result
 mul-result c = search needs
 
--- src/questions.rt:67:1
 returns-5 : tie.Need-returns-5
 returns-5 c = last-16 _ _ _ _ (c .before .before .before .words-for .ensures) (c .before .before .before .before .before .before .before .before .if1 .left) (c .before .before .before .before .before .before .if2 .left) (c .before .before .before .before .if3 .left) (c .before .if4 .left)
 

@@ -1,36 +1,29 @@
+-- Each test is one part of question 15. Assumes nothing.
 use borrow.Author.Tests.{le-leb, lt-leb}
-use Rattle.union_builder.specs.Inner.{numbersFit}
+use Rattle.union_builder.specs.Finding.{numbersFit}
 use Rattle.union_builder.proofs.questions.numbers_fit.Statement.{statement}
 use Rattle.union_builder.proofs.questions.numbers_fit.Tie as tie
-use Rattle.union_builder.proofs.questions.numbers_fit.Reads as reads
-use Rattle.union_builder.proofs.questions.numbers_fit.Lts as lts
 
--- src/questions.rt:49:9
 returns : tie.Need-returns
 unfolding numbersFit
 returns c = simp (lt-leb _ _ (c .if1 .taken))
 
--- src/questions.rt:52:9
 returns-2 : tie.Need-returns-2
 unfolding numbersFit
 returns-2 c = simp (le-leb _ _ (c .before .if1 .left), lt-leb _ _ (c .if2 .taken))
 
--- src/questions.rt:55:9
 returns-3 : tie.Need-returns-3
 unfolding numbersFit
 returns-3 c = simp (le-leb _ _ (c .before .before .if1 .left), le-leb _ _ (c .before .if2 .left), lt-leb _ _ (c .if3 .taken))
 
--- src/questions.rt:58:9
 returns-4 : tie.Need-returns-4
 unfolding numbersFit
 returns-4 c = simp (le-leb _ _ (c .before .before .before .if1 .left), le-leb _ _ (c .before .before .if2 .left), le-leb _ _ (c .before .if3 .left), lt-leb _ _ (c .if4 .taken))
 
--- src/questions.rt:61:9
 returns-5 : tie.Need-returns-5
 unfolding numbersFit
 returns-5 c = simp (le-leb _ _ (c .before .before .before .before .if1 .left), le-leb _ _ (c .before .before .before .if2 .left), le-leb _ _ (c .before .before .if3 .left), le-leb _ _ (c .before .if4 .left), lt-leb _ _ (c .if5 .taken))
 
--- src/questions.rt:45:1
 returns-6 : tie.Need-returns-6
 unfolding numbersFit
 returns-6 c = simp (le-leb _ _ (c .before .before .before .before .if1 .left), le-leb _ _ (c .before .before .before .if2 .left), le-leb _ _ (c .before .before .if3 .left), le-leb _ _ (c .before .if4 .left), le-leb _ _ (c .if5 .left))

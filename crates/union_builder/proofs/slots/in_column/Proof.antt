@@ -1,15 +1,11 @@
-use mathlib.Core.Path.{_≡_, refl, sym, ap, _∙_}
+-- By the test. Assumes nothing.
 use borrow.Author.Tests.{eq-eqb, ne-eqb}
 use Rattle.union_builder.proofs.slots.in_column.Statement.{statement}
 use Rattle.union_builder.proofs.slots.in_column.Tie as tie
-use Rattle.union_builder.proofs.slots.in_column.Reads as reads
-use Rattle.union_builder.proofs.slots.in_column.Lts as lts
 
--- src/slots.rt:20:1
 returns : tie.Need-returns
 returns c = rw (eq-eqb _ _ (c .if1 .taken))
 
--- src/slots.rt:20:1
 returns-2 : tie.Need-returns-2
 returns-2 c = rw (ne-eqb _ _ (c .if1 .left))
 

@@ -1,18 +1,15 @@
-use mathlib.Core.Path.{_≡_, refl, sym, ap, _∙_}
-use Prim.Native.Nat.{ℕ, _+_, _-_, _*_, _<_, _≤_}
+-- The first s nulls are put. Assumes nothing.
+use mathlib.Core.Path.{_≡_, refl, _∙_}
+use Prim.Native.Nat.{_-_, _*_, _≤_}
 use native.Mathlib.Nat.{le-antisymm}
 use mathlib.Core.Option.{none}
 use native.Mathlib.Omega.{arith}
-use borrow.Author.Needs.{needs}
 use lib.ListN.{length}
 use Rattle.bitmap.specs.Bits.{wordsFor}
 use Rattle.union_builder.specs.Append.{put, puts, putValue, putBit, filled}
 use Rattle.union_builder.proofs.Putting.{puts-turn, room-kept}
 use Rattle.union_builder.proofs.slots.put_nulls.Statement.{statement}
 use Rattle.union_builder.proofs.slots.put_nulls.Tie as tie
-use Rattle.union_builder.proofs.slots.put_nulls.Reads as reads
-use Rattle.union_builder.proofs.slots.put_nulls.Lts as lts
-use Rattle.union_builder.proofs.slots.put_slot.Reads as put-slot-reads
 
 abbrev Inv-loop : tie.InvT-loop
 Inv-loop values₀ masks₀ capacity k n s₀ values masks s =
@@ -22,23 +19,18 @@ Inv-loop values₀ masks₀ capacity k n s₀ values masks s =
 abbrev μ-loop : tie.MeasureT-loop
 μ-loop values₀ masks₀ capacity k n s₀ values masks s = n - s
 
--- src/slots.rt:50:5
 loop-holds : tie.Need-loop-holds Inv-loop μ-loop
 loop-holds c = (omega arith, refl, refl, refl, refl)
 
--- src/slots.rt:51:9
 put-slot-requires : tie.Need-put-slot-requires Inv-loop μ-loop
 put-slot-requires c κs = let l = c .before .before .before .loop .inv in (room-kept (c .before .before .before .before .before .before .pre .0) (l .3) (l .4), omega arith)
 
--- src/slots.rt:50:9
 add-s : tie.Need-add-s Inv-loop μ-loop
 add-s c = omega arith
 
--- src/slots.rt:50:5
 loop-less : tie.Need-loop-less Inv-loop μ-loop
 loop-less c = omega arith
 
--- src/slots.rt:50:5
 loop-again : tie.Need-loop-again Inv-loop μ-loop
 loop-again c =
     let l = c .before .before .before .before .before .before .before .before .loop in
@@ -51,15 +43,12 @@ loop-again c =
       p .kept .1 .0 ∙ l .inv .4,
     )
 
--- src/slots.rt:45:1
 same-length : tie.Need-same-length Inv-loop μ-loop
 same-length c = c .before .loop .inv .3
 
--- src/slots.rt:45:1
 same-length-2 : tie.Need-same-length-2 Inv-loop μ-loop
 same-length-2 c = c .before .loop .inv .4
 
--- src/slots.rt:45:1
 returns : tie.Need-returns Inv-loop μ-loop
 returns c =
     let past = le-antisymm (c .before .loop .inv .0) (c .loop-test .left) in

@@ -1,7 +1,8 @@
-use mathlib.Core.Path.{_≡_, refl, sym, ap, _∙_}
+-- The slots of the first k columns are put. Assumes nothing.
+use mathlib.Core.Path.{_≡_, refl, ap, _∙_}
 use mathlib.Core.Bool.{cond}
 use mathlib.Core.Option.{none}
-use Prim.Native.Nat.{ℕ, _+_, _-_, _*_, _<_, _≤_}
+use Prim.Native.Nat.{ℕ, _-_, _*_, _≤_}
 use native.Mathlib.Nat.{le-antisymm}
 use native.Mathlib.Omega.{arith}
 use borrow.Author.Needs.{needs}
@@ -9,14 +10,10 @@ use lib.Dec.{eqb}
 use lib.ListN.{length}
 use Rattle.bitmap.specs.Bits.{wordsFor}
 use Rattle.union_builder.specs.Append.{Put, put, puts, putValue, putBit, row}
-use Rattle.union_builder.specs.Inner.{valueOf}
+use Rattle.union_builder.specs.Writing.{valueOf}
 use Rattle.union_builder.proofs.Putting.{puts-turn, value-here, room-upto, room-kept}
 use Rattle.union_builder.proofs.slots.put_row.Statement.{statement}
 use Rattle.union_builder.proofs.slots.put_row.Tie as tie
-use Rattle.union_builder.proofs.slots.put_row.Reads as reads
-use Rattle.union_builder.proofs.slots.put_row.Lts as lts
-use Rattle.union_builder.proofs.slots.in_column.Reads as in-column-reads
-use Rattle.union_builder.proofs.slots.put_slot.Reads as put-slot-reads
 
 abbrev Inv-loop : tie.InvT-loop
 Inv-loop values₀ masks₀ capacity n slot id word present k₀ values masks k =
@@ -27,27 +24,21 @@ Inv-loop values₀ masks₀ capacity n slot id word present k₀ values masks k 
 abbrev μ-loop : tie.MeasureT-loop
 μ-loop values₀ masks₀ capacity n slot id word present k₀ values masks k = n - k
 
--- src/slots.rt:70:5
 loop-holds : tie.Need-loop-holds Inv-loop μ-loop
 loop-holds c = (omega arith, refl, refl, refl, refl)
 
--- src/slots.rt:71:58
 in-column-requires : tie.Need-in-column-requires Inv-loop μ-loop
 in-column-requires c κs = search needs
 
--- src/slots.rt:71:9
 put-slot-requires : tie.Need-put-slot-requires Inv-loop μ-loop
 put-slot-requires c κs = let l = c .before .before .before .before .loop .inv in (room-upto _ _ _ _ (room-kept (c .before .before .before .before .before .before .before .pre .0) (l .3) (l .4)) (c .before .before .before .before .loop .k) (c .before .before .before .loop-test .taken), c .before .before .before .before .before .before .before .pre .1)
 
--- src/slots.rt:70:9
 add-k : tie.Need-add-k Inv-loop μ-loop
 add-k c = omega arith
 
--- src/slots.rt:70:5
 loop-less : tie.Need-loop-less Inv-loop μ-loop
 loop-less c = omega arith
 
--- src/slots.rt:70:5
 loop-again : tie.Need-loop-again Inv-loop μ-loop
 loop-again c =
     let l = c .before .before .before .before .before .before .before .before .before .loop in
@@ -65,15 +56,12 @@ loop-again c =
       p .kept .1 .0 ∙ l .inv .4,
     )
 
--- src/slots.rt:56:1
 same-length : tie.Need-same-length Inv-loop μ-loop
 same-length c = c .before .loop .inv .3
 
--- src/slots.rt:56:1
 same-length-2 : tie.Need-same-length-2 Inv-loop μ-loop
 same-length-2 c = c .before .loop .inv .4
 
--- src/slots.rt:56:1
 returns : tie.Need-returns Inv-loop μ-loop
 returns c =
     let past = le-antisymm (c .before .loop .inv .0) (c .loop-test .left) in

@@ -1,59 +1,44 @@
-use mathlib.Core.Path.{_≡_, refl, sym, ap, _∙_}
+-- The slot lies in the room of its column. Assumes nothing.
+use mathlib.Core.Path.{ap, _∙_}
 use native.Mathlib.Omega.{arith}
 use borrow.Author.Needs.{needs}
-use Prim.Native.Nat.{ℕ, _+_, _*_, _<_, _≤_}
-use lib.ListN.{length, set}
-use Rattle.bitmap.specs.Bits.{wordsFor, setBit}
+use Prim.Native.Nat.{_+_, _*_}
+use lib.ListN.{set}
+use Rattle.bitmap.specs.Bits.{wordsFor}
 use Rattle.union_builder.proofs.Putting.{value-present, mask-stride, bit-in, bit-small}
 use Rattle.union_builder.proofs.slots.put_slot.Statement.{statement}
 use Rattle.union_builder.proofs.slots.put_slot.Tie as tie
-use Rattle.union_builder.proofs.slots.put_slot.Reads as reads
-use Rattle.union_builder.proofs.slots.put_slot.Lts as lts
-use Rattle.bitmap.proofs.set_bit.Reads as set-bit-reads
-use Rattle.bitmap.proofs.words_for.Reads as words-for-reads
-use Rattle.union_builder.proofs.slots.slot_word.Reads as slot-word-reads
 
--- src/slots.rt:40:35
 slot-word-requires : tie.Need-slot-word-requires
 slot-word-requires c κs = search needs
 
--- src/slots.rt:40:12
 mul-values : tie.Need-mul-values
 mul-values c = search needs
 
--- src/slots.rt:40:12
 add-values : tie.Need-add-values
 add-values c = search needs
 
--- src/slots.rt:40:5
 mul-values-2 : tie.Need-mul-values-2
 mul-values-2 c = search needs
 
--- src/slots.rt:40:5
 slice-write-values : tie.Need-slice-write-values
 slice-write-values c = search needs
 
--- src/slots.rt:41:32
 words-for-requires : tie.Need-words-for-requires
 words-for-requires c κs = search needs
 
--- src/slots.rt:41:28
 mul-set-bit : tie.Need-mul-set-bit
 mul-set-bit c = let a = c .before .before .before .before .before .args in omega (arith, ap (λ w. a .k * w) (c .words-for .ensures), bit-small _ _ _ _ (c .before .before .before .before .before .pre .0) (a .slot) (c .before .before .before .before .before .pre .1))
 
--- src/slots.rt:41:5
 set-bit-requires : tie.Need-set-bit-requires
 set-bit-requires c κs = let a = c .before .before .before .before .before .args in omega (arith, ap (λ w. a .k * w) (c .words-for .ensures), bit-in _ _ _ _ (c .before .before .before .before .before .pre .0) (a .slot) (c .before .before .before .before .before .pre .1))
 
--- src/slots.rt:27:1
 same-length : tie.Need-same-length
 same-length c = search needs
 
--- src/slots.rt:27:1
 same-length-2 : tie.Need-same-length-2
 same-length-2 c = search needs
 
--- src/slots.rt:27:1
 returns : tie.Need-returns
 returns c =
     let a = c .before .before .before .before .before .before .before .before .args in

@@ -1,4 +1,5 @@
-use mathlib.Core.Path.{_≡_, refl, sym, ap, _∙_}
+-- A number below 65,536 is its own signed word. Assumes nothing.
+use mathlib.Core.Path.{sym, ap, _∙_}
 use native.Mathlib.Omega.{arith}
 use borrow.Author.Needs.{needs}
 use lib.IntN.{ℤ}
@@ -10,37 +11,28 @@ use Rattle.union_array.specs.Types.{byLayout}
 use lib.IntN.{pos}
 use Rattle.union_builder.proofs.store.put_offset.Statement.{statement}
 use Rattle.union_builder.proofs.store.put_offset.Tie as tie
-use Rattle.union_builder.proofs.store.put_offset.Reads as reads
-use Rattle.union_builder.proofs.store.put_offset.Lts as lts
 
 enum-told : tie.Need-enum-told
 enum-told c = search needs
 
--- src/store.rt:37:27
 enum-told-2 : tie.Need-enum-told-2
 enum-told-2 c = search needs
 
--- src/store.rt:37:27
 cast-offsets : tie.Need-cast-offsets
 cast-offsets c = search needs
 
--- src/store.rt:37:13
 mul-t6 : tie.Need-mul-t6
 mul-t6 c = search needs
 
--- src/store.rt:37:13
 slice-set-from-offsets : tie.Need-slice-set-from-offsets
 slice-set-from-offsets c = search needs
 
--- src/store.rt:30:1
 returns : tie.Need-returns
 returns c = search needs
 
--- src/store.rt:30:1
 same-length : tie.Need-same-length
 same-length c = search needs
 
--- src/store.rt:30:1
 returns-2 : tie.Need-returns-2
 returns-2 c =
     let a = c .before .before .args in

@@ -1,26 +1,19 @@
-use mathlib.Core.Path.{_≡_, refl, sym, ap, _∙_}
+-- First the nulls, then the row. Assumes nothing.
 use mathlib.Core.Bool.{cond}
 use mathlib.Core.Option.{none}
-use Prim.Native.Nat.{ℕ, _+_, _*_, _≤_, _<_}
+use Prim.Native.Nat.{_*_}
 use native.Mathlib.Omega.{arith}
 use borrow.Author.Needs.{needs}
 use Rattle.bitmap.specs.Bits.{wordsFor}
-use Rattle.union_builder.specs.Append.{puts, putValue, putBit, filled, row}
-use Rattle.union_builder.specs.Inner.{valueOf}
+use Rattle.union_builder.specs.Append.{putValue, putBit, filled, row}
+use Rattle.union_builder.specs.Writing.{valueOf}
 use Rattle.union_builder.proofs.Putting.{puts-two, room-upto, cond-le}
 use Rattle.union_builder.proofs.store.put_sparse.Statement.{statement}
 use Rattle.union_builder.proofs.store.put_sparse.Tie as tie
-use Rattle.union_builder.proofs.store.put_sparse.Reads as reads
-use Rattle.union_builder.proofs.store.put_sparse.Lts as lts
-use Rattle.union_builder.proofs.slots.put_nulls.Reads as put-nulls-reads
-use Rattle.union_builder.proofs.slots.put_row.Reads as put-row-reads
-use Rattle.union_builder.proofs.store.blanks.Reads as blanks-reads
 
--- src/store.rt:73:46
 blanks-requires : tie.Need-blanks-requires
 blanks-requires c κs = search needs
 
--- src/store.rt:73:5
 put-nulls-requires : tie.Need-put-nulls-requires
 put-nulls-requires c κs =
     let a = c .before .before .before .before .before .args in
@@ -28,19 +21,15 @@ put-nulls-requires c κs =
     let n = cond-le (a .p .fresh) (a .len) in
     (room-upto _ _ _ _ (s .0) (a .p .id) (s .2), omega (arith, c .blanks .ensures))
 
--- src/store.rt:74:5
 put-row-requires : tie.Need-put-row-requires
 put-row-requires c κs = search needs
 
--- src/store.rt:60:1
 same-length : tie.Need-same-length
 same-length c = search needs
 
--- src/store.rt:60:1
 same-length-2 : tie.Need-same-length-2
 same-length-2 c = search needs
 
--- src/store.rt:60:1
 returns : tie.Need-returns
 returns c =
     let a = c .before .before .before .before .before .before .before .before .before .before .before .before .before .before .before .before .before .args in

@@ -1,4 +1,5 @@
-use mathlib.Core.Path.{_≡_, refl, sym, ap, _∙_}
+-- A number below 128 is its own signed byte. Assumes nothing.
+use mathlib.Core.Path.{ap}
 use native.Mathlib.Omega.{arith}
 use borrow.Author.Needs.{needs}
 use lib.IntN.{ℤ}
@@ -7,22 +8,16 @@ use mir.Syntax.{w8}
 use mir.ValLaws.{toZ-pos}
 use Rattle.union_builder.proofs.store.put_type_id.Statement.{statement}
 use Rattle.union_builder.proofs.store.put_type_id.Tie as tie
-use Rattle.union_builder.proofs.store.put_type_id.Reads as reads
-use Rattle.union_builder.proofs.store.put_type_id.Lts as lts
 
--- src/store.rt:26:20
 cast-type-ids : tie.Need-cast-type-ids
 cast-type-ids c = search needs
 
--- src/store.rt:26:5
 slice-set-from-type-ids : tie.Need-slice-set-from-type-ids
 slice-set-from-type-ids c = search needs
 
--- src/store.rt:22:1
 same-length : tie.Need-same-length
 same-length c = search needs
 
--- src/store.rt:22:1
 returns : tie.Need-returns
 returns c = let a = c .args in ap (λ (z : ℤ). set (a .type-ids .now) (a .at) z) (toZ-pos w8 (a .id) (omega arith))
 

@@ -1,61 +1,44 @@
+-- Each slice by its own call. Assumes nothing.
 use borrow.Author.Needs.{needs}
 use Rattle.union_array.specs.Buffers.{buffersOf}
-use Rattle.union_builder.specs.Inner.{valueOf}
+use Rattle.union_builder.specs.Writing.{valueOf}
 use Rattle.union_builder.proofs.Stored.{all-stored}
 use Rattle.union_builder.proofs.store.store.Statement.{statement}
 use Rattle.union_builder.proofs.store.store.Tie as tie
-use Rattle.union_builder.proofs.store.store.Reads as reads
-use Rattle.union_builder.proofs.store.store.Lts as lts
-use Rattle.union_builder.proofs.store.put_new_name.Reads as put-new-name-reads
-use Rattle.union_builder.proofs.store.put_offset.Reads as put-offset-reads
-use Rattle.union_builder.proofs.store.put_slots.Reads as put-slots-reads
-use Rattle.union_builder.proofs.store.put_type_id.Reads as put-type-id-reads
 
--- src/store.rt:122:5
 put-type-id-requires : tie.Need-put-type-id-requires
 put-type-id-requires c κs = search needs
 
--- src/store.rt:123:38
 cast-put-offset : tie.Need-cast-put-offset
 cast-put-offset c = search needs
 
--- src/store.rt:123:5
 put-offset-requires : tie.Need-put-offset-requires
 put-offset-requires c κs = search needs
 
--- src/store.rt:124:34
 mul-put-new-name : tie.Need-mul-put-new-name
 mul-put-new-name c = search needs
 
--- src/store.rt:124:5
 put-new-name-requires : tie.Need-put-new-name-requires
 put-new-name-requires c κs = search needs
 
--- src/store.rt:125:5
 put-slots-requires : tie.Need-put-slots-requires
 put-slots-requires c κs = search needs
 
--- src/store.rt:102:1
 same-length : tie.Need-same-length
 same-length c = search needs
 
--- src/store.rt:102:1
 same-length-2 : tie.Need-same-length-2
 same-length-2 c = search needs
 
--- src/store.rt:102:1
 same-length-3 : tie.Need-same-length-3
 same-length-3 c = search needs
 
--- src/store.rt:102:1
 same-length-4 : tie.Need-same-length-4
 same-length-4 c = search needs
 
--- src/store.rt:102:1
 same-length-5 : tie.Need-same-length-5
 same-length-5 c = search needs
 
--- src/store.rt:102:1
 returns : tie.Need-returns
 returns c =
     let a = c .before .before .before .before .before .before .before .before .before .before .before .before .before .before .before .before .before .before .before .before .before .before .before .before .args in

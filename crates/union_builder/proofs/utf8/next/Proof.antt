@@ -1,34 +1,26 @@
+-- The byte is a first one, misses its range, or meets it. Assumes nothing.
 use Prim.Native.Nat.{_<_}
 use native.Mathlib.Omega.{arith}
 use borrow.Author.Needs.{needs}
 use Rattle.union_builder.proofs.Ranges.{in-below, in-above, led, met, not-met}
 use Rattle.union_builder.proofs.utf8.next.Statement.{statement}
 use Rattle.union_builder.proofs.utf8.next.Tie as tie
-use Rattle.union_builder.proofs.utf8.next.Reads as reads
-use Rattle.union_builder.proofs.utf8.next.Lts as lts
-use Rattle.union_builder.proofs.utf8.first.Reads as first-reads
 
--- src/utf8.rt:49:9
 first-requires : tie.Need-first-requires
 first-requires c κs = search needs
 
--- src/utf8.rt:49:9
 returns : tie.Need-returns
 returns c = led (c .first .result) (c .before .before .before .args .e) (c .before .before .before .args .b) (c .first .ensures) (c .before .if1 .taken)
 
--- src/utf8.rt:52:9
 returns-2 : tie.Need-returns-2
 returns-2 c = λ bs. not-met _ _ _ _ bs (in-below _ _ _ (c .if2 .taken)) (c .before .before .if1 .left)
 
--- src/utf8.rt:55:9
 returns-3 : tie.Need-returns-3
 returns-3 c = λ bs. not-met _ _ _ _ bs (in-above _ _ _ (c .if3 .taken)) (c .before .before .before .before .if1 .left)
 
--- src/utf8.rt:57:45
 sub-t4 : tie.Need-sub-t4
 sub-t4 c = search needs
 
--- src/utf8.rt:45:1
 returns-4 : tie.Need-returns-4
 returns-4 c =
     let e = c .before .before .before .before .before .before .before .args .e in

@@ -1,4 +1,4 @@
-use mathlib.Core.Path.{_≡_, refl, sym, ap, _∙_}
+use mathlib.Core.Path.{sym, ap}
 use Rattle.union_ffi.specs.Numbers.{kindFrom}
 use Rattle.union_ffi.proofs.Numbers.{kind-else}
 use Rattle.union_ffi.proofs.convert.kind_from.Statement.{statement}

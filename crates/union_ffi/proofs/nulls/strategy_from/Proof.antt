@@ -1,4 +1,4 @@
-use mathlib.Core.Path.{_≡_, refl, sym, ap, _∙_}
+use mathlib.Core.Path.{sym, ap}
 use borrow.Author.Tests.{ne-eqb}
 use Rattle.union_ffi.specs.Nulls.{strategyFrom}
 use Rattle.union_ffi.proofs.nulls.strategy_from.Statement.{statement}

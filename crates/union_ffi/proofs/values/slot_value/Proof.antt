@@ -1,6 +1,5 @@
 use mathlib.Core.Path.{sym, _∙_}
 use mathlib.Core.List.{[]}
-use native.Mathlib.Omega.{arith}
 use Rattle.union_array.specs.Buffers.{buffersOf}
 use Rattle.union_array.proofs.Present.{present-masks}
 use Rattle.union_ffi.proofs.Runs.{slot-present, slot-missing}

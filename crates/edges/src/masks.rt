@@ -1,0 +1,89 @@
+// The null mask at each setting, and by each named strategy.
+use crate::print;
+use logical_nulls::LogicalNulls;
+use logical_nulls::SparseStrategy;
+use logical_nulls::mask;
+use logical_nulls::named;
+use union_array::UnionArray;
+
+// An answer on a line: number, present, null count, route, words.
+fn answer(r: LogicalNulls, words: [u64; 3]) {
+    print::text(b":");
+    print::small(r.refusal);
+    print::flag(r.present);
+    print::size(r.nulls);
+    print::small(r.route);
+    print::word(words[0]);
+    print::word(words[1]);
+    print::word(words[2]);
+    print::end();
+}
+
+fn at_setting(
+    a: UnionArray,
+    cost: usize,
+    ids: &[i8],
+    offsets: &[i32],
+    values: &[u64],
+    masks: &[u64],
+    names: &[u8],
+) {
+    let mut words = [0xffu64; 3];
+    let r = mask::logical_nulls(a, cost, ids, offsets, values, masks, names, &mut words);
+    print::text(b"  mask at");
+    print::size(cost);
+    answer(r, words);
+}
+
+fn by_strategy(
+    a: UnionArray,
+    strategy: SparseStrategy,
+    ids: &[i8],
+    offsets: &[i32],
+    values: &[u64],
+    masks: &[u64],
+    names: &[u8],
+) {
+    let mut words = [0xffu64; 3];
+    let r = named::run_strategy(a, strategy, ids, offsets, values, masks, names, &mut words);
+    answer(r, words);
+}
+
+// The null mask at each setting, and at a number that is none.
+pub fn settings(
+    a: UnionArray,
+    ids: &[i8],
+    offsets: &[i32],
+    values: &[u64],
+    masks: &[u64],
+    names: &[u8],
+) {
+    at_setting(a, 10, ids, offsets, values, masks, names);
+    at_setting(a, 3, ids, offsets, values, masks, names);
+    at_setting(a, 2, ids, offsets, values, masks, names);
+    at_setting(a, 0, ids, offsets, values, masks, names);
+    at_setting(a, 4, ids, offsets, values, masks, names);
+}
+
+// Each named strategy.
+pub fn strategies(
+    a: UnionArray,
+    ids: &[i8],
+    offsets: &[i32],
+    values: &[u64],
+    masks: &[u64],
+    names: &[u8],
+) {
+    let gather = SparseStrategy::Gather;
+    print::text(b"  gather");
+    by_strategy(a, gather, ids, offsets, values, masks, names);
+    let one = SparseStrategy::SkipOne;
+    print::text(b"  skip one");
+    by_strategy(a, one, ids, offsets, values, masks, names);
+    let without = SparseStrategy::SkipWithoutNulls;
+    print::text(b"  skip without nulls");
+    by_strategy(a, without, ids, offsets, values, masks, names);
+    let full = SparseStrategy::SkipFullyNull;
+    print::text(b"  skip fully null");
+    by_strategy(a, full, ids, offsets, values, masks, names);
+}
