@@ -188,17 +188,9 @@ fn mismatch(tally: &mut Tally) {
         let (_, builder) = after("abBc");
         let union = builder.finish_cloned().answer().unwrap();
         let listed: Vec<(i8, String)> = union.0.fields().iter().map(|(id, f)| (id, f.name().clone())).collect();
-        tally.same(
-            "mismatch on b of a and b, then c gets b's id",
-            listed,
-            vec![(0, "a".into()), (1, "c".into())],
-        );
+        tally.same("mismatch on b of a and b, then c gets b's id", listed, vec![(0, "a".into()), (1, "c".into())]);
         let second = union.value(1).answer().map(|value| (value.name, value.bits));
-        tally.same(
-            "mismatch on b, then c: slot 1 is c's",
-            second,
-            Some((b"c".to_vec(), if dense { 4 } else { 0 })),
-        );
+        tally.same("mismatch on b, then c: slot 1 is c's", second, Some((b"c".to_vec(), if dense { 4 } else { 0 })));
     }
 }
 

@@ -483,8 +483,7 @@ impl Port for Proved {
             let values = longer.values.as_mut_ptr().add(GUARD);
             let masks = longer.masks.as_mut_ptr().add(GUARD);
             let names = longer.names.as_mut_ptr().add(GUARD);
-            let lens =
-                [lent.type_ids.len(), lent.offsets.len(), lent.values.len(), lent.masks.len(), lent.names.len()];
+            let lens = [lent.type_ids.len(), lent.offsets.len(), lent.values.len(), lent.masks.len(), lent.names.len()];
             match word {
                 Some(bits) => union_builder_append(
                     builder, at, size, kind, bits, type_ids, lens[0], offsets, lens[1], values, lens[2], masks,
@@ -504,7 +503,14 @@ impl Port for Proved {
         (built.refusal, state_of(&built.builder))
     }
 
-    fn append_in_place(&self, state: &State, lent: &mut Lent, name: &[u8], kind: Kind, word: Option<u64>) -> (u8, State) {
+    fn append_in_place(
+        &self,
+        state: &State,
+        lent: &mut Lent,
+        name: &[u8],
+        kind: Kind,
+        word: Option<u64>,
+    ) -> (u8, State) {
         let (builder, at, size, kind) = (builder_to(state), name.as_ptr(), name.len(), kind as u8);
         let built = match word {
             Some(bits) => call_writing!(union_builder_append(builder, at, size, kind, bits; lent)),
@@ -523,11 +529,14 @@ impl Port for Proved {
     ) -> Option<(u8, State)> {
         let text: Vec<u8> = readings.iter().flat_map(|(name, _, _)| name.clone()).collect();
         let sizes: Vec<u8> = readings.iter().map(|(name, _, _)| name.len() as u8).collect();
-        let starts: Vec<u32> = sizes.iter().scan(0, |end, size| {
-            let start = *end;
-            *end += u32::from(*size);
-            Some(start)
-        }).collect();
+        let starts: Vec<u32> = sizes
+            .iter()
+            .scan(0, |end, size| {
+                let start = *end;
+                *end += u32::from(*size);
+                Some(start)
+            })
+            .collect();
         let kinds: Vec<u8> = readings.iter().map(|(_, kind, _)| *kind as u8).collect();
         let present: Vec<u8> = readings.iter().map(|(_, _, word)| u8::from(word.is_some())).collect();
         let bits: Vec<u64> = readings.iter().map(|(_, _, word)| word.unwrap_or(3)).collect();
@@ -586,7 +595,8 @@ pub fn boundary() -> u64 {
     for array in arrays {
         array_128(&mut tally, array, &case.lent);
     }
-    for change in [|array: &mut CArray| array.columns[2].kind = 10, |array: &mut CArray| array.columns[127].masked = 2] {
+    for change in [|array: &mut CArray| array.columns[2].kind = 10, |array: &mut CArray| array.columns[127].masked = 2]
+    {
         let mut array = good;
         change(&mut array);
         tally.same("numbers past the columns in use", call!(union_array_try_new(array; &case.lent)), 0);
@@ -630,13 +640,8 @@ fn array_128(tally: &mut Tally, array: CArray, lent: &Lent) {
 }
 
 fn builder_128(tally: &mut Tally) {
-    let mut lent = Lent {
-        type_ids: vec![7; 4],
-        offsets: vec![7; 4],
-        values: vec![7; 8],
-        masks: vec![7; 2],
-        names: vec![7; 64],
-    };
+    let mut lent =
+        Lent { type_ids: vec![7; 4], offsets: vec![7; 4], values: vec![7; 8], masks: vec![7; 2], names: vec![7; 64] };
     let before = lent.clone();
     let column = Growing { kind: Kind::Int8, size: 1, slots: 0, masked: false };
     let good = builder_to(&State { dense: true, capacity: 4, limit: 2, len: 0, columns: vec![column] });

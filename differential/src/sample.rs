@@ -84,7 +84,12 @@ impl Sample {
     fn whole(&mut self, random: &mut Random, case: &Case, union: &Union) {
         for id in case.batch.columns.iter().map(|column| column.id).take(4).chain([-1, random.next() as i8]) {
             let child = union.child(id).answer();
-            self.call(5, usize::from(id as u8), 0, child.map(|child| vec![child.kind as u64, child.words.len() as u64]));
+            self.call(
+                5,
+                usize::from(id as u8),
+                0,
+                child.map(|child| vec![child.kind as u64, child.words.len() as u64]),
+            );
         }
         let names = union.type_names().answer().unwrap();
         let sizes = names.iter().map(|name| name.len() as u64);

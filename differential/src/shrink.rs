@@ -129,9 +129,11 @@ fn smaller_cases(case: &Case) -> Vec<Case> {
     for fewer in [count / 2, count / 4, 16, 1] {
         if fewer > 0 && fewer <= count && count < 1 << 20 {
             with(&|other| cut(case, fewer).is_some_and(|less| changed(other, less)));
-            with(&|other| case.first_no() == 0 && {
-                let less = case.sliced(fewer, count - fewer).expect("a slice in range");
-                changed(&mut other.batch, less)
+            with(&|other| {
+                case.first_no() == 0 && {
+                    let less = case.sliced(fewer, count - fewer).expect("a slice in range");
+                    changed(&mut other.batch, less)
+                }
             });
         }
     }
@@ -165,13 +167,17 @@ fn smaller_cases(case: &Case) -> Vec<Case> {
 
 fn smaller_memory(case: &Case, with: &mut dyn FnMut(&dyn Fn(&mut Case) -> bool)) {
     let (start, offsets_start) = (case.batch.start, case.batch.offsets_start);
-    with(&|other| start > 0 && start <= other.lent.type_ids.len() && {
-        other.lent.type_ids.drain(..start);
-        changed(&mut other.batch.start, 0)
+    with(&|other| {
+        start > 0 && start <= other.lent.type_ids.len() && {
+            other.lent.type_ids.drain(..start);
+            changed(&mut other.batch.start, 0)
+        }
     });
-    with(&|other| offsets_start > 0 && offsets_start <= other.lent.offsets.len() && {
-        other.lent.offsets.drain(..offsets_start);
-        changed(&mut other.batch.offsets_start, 0)
+    with(&|other| {
+        offsets_start > 0 && offsets_start <= other.lent.offsets.len() && {
+            other.lent.offsets.drain(..offsets_start);
+            changed(&mut other.batch.offsets_start, 0)
+        }
     });
     for by in [2, 1] {
         let fewer = |length: usize| if by == 2 { length / 2 } else { length.min(1) };
