@@ -2,12 +2,16 @@
 use mathlib.Core.Path.{_≡_, refl, ap}
 use mathlib.Core.Bool.{true, false}
 use mathlib.Core.Option.{Option}
-use mathlib.Core.List.{List}
+use mathlib.Core.List.{List, []}
+use lib.ListN.{take, drop}
 use Prim.Native.Nat.{ℕ, zero, suc, _<_, _≤_}
 use borrow.Author.Tests.{lt-ltb, le-ltb}
 use Rattle.union_array.specs.declared.Kind.{Kind}
 use Rattle.union_array.specs.declared.UnionArray.{UnionArray}
-use Rattle.union_array.specs.Buffers.{Buffers}
+use Rattle.union_array.specs.Buffers.{Buffers, amountsOf}
+use Rattle.union_array.specs.Refusal.{ifYes}
+use Rattle.union_array.specs.Questions.{asked}
+use Rattle.union_array.specs.Lookup.{typeIdsOf}
 use Rattle.union_builder.specs.declared.Appended.{Appended}
 use Rattle.union_builder.specs.declared.UnionBuilder.{UnionBuilder}
 use Rattle.union_builder.specs.Append.{outcome, appendWith}
@@ -22,6 +26,16 @@ use Rattle.union_ffi.specs.Builders.{CBuilder, builderFrom, builderTo, i
 pub part-refused : (a : UnionArray) (n : ℕ) → (n ≡ 0 → ⊥) → _≡_ {A = CPart} (record { start = 0; count = 0; refusal = n }) (partOf a n)
 part-refused a zero h = absurd (h refl)
 part-refused a (suc n) h = refl
+
+-- the part that is told is the one that `type_ids` shows
+pub part-shown : (a : UnionArray) (m : Buffers)
+    → let p = partOf a (asked a (amountsOf m)) in (typeIdsOf a m) .ids ≡ take (p .count) (drop (p .start) (m .ids))
+unfolding typeIdsOf
+part-shown a m = by (asked a (amountsOf m))
+  where
+    by : (n : ℕ) → ifYes n (take (a .count) (drop (a .start) (m .ids))) [] ≡ take (ifYes n (a .count) 0) (drop (ifYes n (a .start) 0) (m .ids))
+    by zero = refl
+    by (suc n) = refl
 
 module _ (b : CBuilder) (m : Buffers) (name : List ℕ) (kind : ℕ) (v : Option ℕ) where
   pub append-bad : isBuilder b ≡ false → cOutcome (built b badNumber) m ≡ cAppendWith b m name kind v
