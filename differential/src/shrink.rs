@@ -31,7 +31,7 @@ pub fn report<P: Port>(port: &P, input: &Input, seed: u64) {
         break;
     }
     println!("the smallest input found:\n{least:?}");
-    println!("  {}\n  the answer:  {}\n  the Rust's:  {}", first.what, first.answer, first.expected);
+    println!("  {}\n  answered: {}\n  expected: {}", first.what, first.answer, first.expected);
 }
 
 fn smaller(input: &Input) -> Vec<Input> {

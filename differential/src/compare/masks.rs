@@ -51,7 +51,8 @@ impl<P: Port> Comparison<'_, P> {
             mask = Mask { present: nulls.present, null_count: nulls.null_count, route: nulls.route };
             // Routes 1 to 6 write, present or not; of an absent mask only a named strategy of the original shows words.
             if nulls.present || what == "strategy" {
-                after[..need].copy_from_slice(&nulls.bits);
+                self.tally.same(&format!("{what}: length"), case.batch.count, nulls.length);
+                after[..need].iter_mut().zip(&nulls.bits).for_each(|(word, bits)| *word = *bits);
                 if nulls.raw != nulls.bits {
                     self.tally.known("padding");
                 }
