@@ -2,7 +2,7 @@
  * archive has them, and that runs tell what single calls tell.
  *
  *   rt staticlib union_ffi
- *   cc -O2 -Wall bindings/check.c target/staticlib/libunion_ffi.a -o /tmp/union_check && /tmp/union_check
+ *   cc -O2 -Wall bindings/check.c target/staticlib/libunion_ffi.a -o target/union_check && target/union_check
  */
 #include "union.h"
 
