@@ -69,7 +69,8 @@ typedef struct {
     uint8_t masked; /* whether there is a mask */
 } union_column;
 
-/* A union array: its column list, and its own parts of the lent type ids and offsets. Entries past `fields` may hold anything. */
+/* A union array: its column list, and its own parts of the lent type ids and offsets. Entries past `fields` may hold anything:
+ * they are not read, and are 0 in an answer. */
 typedef struct {
     union_column columns[UNION_MAX_COLUMNS];
     size_t fields;
@@ -154,7 +155,9 @@ typedef struct {
     uint8_t masked;
 } union_builder_column;
 
-/* A builder of `capacity` slots and at most `limit` columns, with `len` slots and `count` columns so far. */
+/* A builder of `capacity` slots and at most `limit` columns, with `len` slots and `count` columns so far. Entries past `count`
+ * may hold anything: they are not read, and stay as they came in a builder that is handed back (0 in one that is made, or
+ * emptied by union_builder_finish). */
 typedef struct {
     union_builder_column columns[UNION_MAX_COLUMNS];
     size_t capacity;

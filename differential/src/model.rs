@@ -190,6 +190,8 @@ impl Case {
             return None;
         }
         let mut batch = Batch { start: self.batch.start + start, count, ..self.batch.clone() };
+        // Entries past the fields are neither read nor handed back.
+        batch.columns.truncate(batch.fields);
         if batch.dense {
             batch.offsets_start += start;
             batch.offsets_count = count;

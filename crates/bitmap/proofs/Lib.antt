@@ -6,3 +6,4 @@ pub mod Ids
 pub mod Chunks
 pub mod Counts
 pub mod OneBit
+pub mod Selections

@@ -5,7 +5,7 @@ use Prim.Native.Nat.{ℕ, zero, suc, _+_, _*_, _/_, _%_, _^_}
 use lib.Dec.{eqb, ltb}
 use lib.ListN.{getD, set}
 use lib.IntN.{ℤ, pos, negsuc}
-use Rattle.bitmap.specs.Lists.{retable}
+use Rattle.bitmap.specs.Lists.{table, retable}
 
 -- a bit as a number
 abbrev pub digit : Bool → ℕ
@@ -56,6 +56,10 @@ sameId (negsuc a) (negsuc b) = eqb a b
 -- the selection mask of a run of n type ids from place s on: bit j is set exactly if id j of the run is the given one
 unfoldable pub selectionOf : List ℤ → ℕ → ℕ → ℤ → ℕ
 selectionOf ids s n id = pack 64 (λ j. ltb j n && sameId (getD ids (s + j) (pos 0)) id)
+
+-- the selection masks of such a run: a word to each id from 0 to 127
+unfoldable pub selectionsOf : List ℤ → ℕ → ℕ → List ℕ
+selectionsOf ids s n = table 128 (λ id. selectionOf ids s n (pos id))
 
 -- the words with mask bit p made v: the other bits of its word, and the other words, are kept
 unfoldable pub setBit : List ℕ → ℕ → Bool → List ℕ

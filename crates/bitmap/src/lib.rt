@@ -1,9 +1,12 @@
 // Bits in 64-bit words: validity masks and selection masks. A mask starts at bit `bit` of word `word`; `bit` may be 64 or more, and
 // then lies in a later word.
 ghost use mathlib.Core.Path.{_≡_};
-ghost use Prim.Native.Nat.{_+_, _-_, _*_, _%_, _^_, _<_, _≤_, min};
-ghost use lib.ListN.{length};
-ghost use Rattle.bitmap.specs.Bits.{pack, bitAt, setBit, wordsFor, chunkOf, nullsOf, isFullyNull, sameId, selectionOf};
+ghost use Prim.Native.Nat.{ℕ, _+_, _-_, _*_, _%_, _^_, _<_, _≤_, min};
+ghost use lib.Dec.{T};
+ghost use lib.IntN.{pos};
+ghost use lib.ListN.{length, getD};
+ghost use lib.Signed.{nonNeg};
+ghost use Rattle.bitmap.specs.Bits.{pack, bitAt, setBit, wordsFor, chunkOf, nullsOf, isFullyNull, sameId, selectionsOf};
 ghost use Rattle.bitmap.specs.Counting.{clearIn};
 
 // How many nulls were counted.
@@ -135,16 +138,19 @@ pub fn same_id(a: i8, b: i8) -> bool
     false
 }
 
-// The word whose bit j is set where id j of the n from `start` on is the given one.
-pub fn selection_mask(ids: &[i8], start: usize, n: usize, id: i8) -> u64
+// The selection masks of the n ids from `start` on, of which none is below 0: a word to each id, whose bit j is set where id j of
+// the run is that one.
+pub fn selection_masks(ids: &[i8], start: usize, n: usize) -> [u64; 128]
     requires { ⌜ (n ≤ 64) × (start + n ≤ length (now ids)) ⌝ }
-    ensures { λ r. ⌜ r ≡ selectionOf (now (ids .entry)) start n id ⌝ }
+    requires { ⌜ ((j : ℕ) → j < n → T (nonNeg (getD (now ids) (start + j) (pos 0)))) ⌝ }
+    ensures { λ r. ⌜ r ≡ selectionsOf (now (ids .entry)) start n ⌝ }
 {
-    let mut mask: u64 = 0;
+    let mut masks = [0u64; 128];
     let mut j: usize = 0;
     while j < n {
-        mask |= (same_id(ids[start + j], id) as u64) << j;
+        let id = ids[start + j] as usize;
+        masks[id] |= 1u64 << j;
         j += 1;
     }
-    mask
+    masks
 }

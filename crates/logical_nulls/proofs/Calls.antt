@@ -26,14 +26,17 @@ use Rattle.union_array.specs.Refusal.{no, _then_, ifYes}
 use Rattle.union_array.specs.Slots.{inUse, all, childAt, slotAt, present, nullsIn, nullIn, slotNull}
 use Rattle.union_array.specs.Questions.{checked, partIn, columnIn, maskIn}
 use Rattle.union_array.proofs.Accepted.{all-accepted}
-use Rattle.logical_nulls.specs.declared.Processor.{Processor}
-use Rattle.logical_nulls.specs.declared.Setting.the-variants.{Of, Refused}
-use Rattle.logical_nulls.specs.Setting.{question12, settingOf}
-use Rattle.logical_nulls.specs.Route.{Choice, cheaper, sparseRoute, fullyNull, withNulls, fullyNulls, oneFieldRoute, manyFieldsRoute, routeOf}
+use Rattle.null_route.specs.declared.Processor.{Processor}
+use Rattle.null_route.specs.declared.Setting.the-variants.{Of, Refused}
+use Rattle.null_route.specs.Setting.{question12, settingOf}
+use Rattle.null_route.specs.declared.Choice.{Choice}
+use Rattle.null_route.specs.Route.{cheaper, sparseRoute, fullyNull, withNulls, fullyNulls, oneFieldRoute, manyFieldsRoute, routeOf}
+use Rattle.null_route.specs.declared.Field.{Field}
+use Rattle.null_route.specs.declared.Fields.{Fields}
+use Rattle.null_route.specs.Fields.{noField, fieldAt, noFields, fieldsOf, routeBy, routeFor}
+use Rattle.null_route.proofs.FieldStates.{many-le}
 use Rattle.logical_nulls.specs.Mask.{LogicalNulls, SparseStrategy, Gather, SkipOne, SkipWithoutNulls, SkipFullyNull, Masked, masked, maskedBy, answerOn, question13, question14, applies, logicalNullsOf, strategyRoute, strategyOf}
-use Rattle.logical_nulls.specs.Fields.{Field, Fields, noField, fieldAt, noFields, fieldsOf, routeBy, routeFor}
 use Rattle.logical_nulls.specs.Ready.{reads, Ready, refusedWith, mayRunOn, mayRun}
-use Rattle.logical_nulls.proofs.FieldStates.{many-le}
 use Rattle.logical_nulls.proofs.Masks.{null-same}
 
 -- ---- the setting

@@ -27,10 +27,11 @@ use Rattle.union_array.specs.Questions.{validId, distinct, maskIn, within, with
 use Rattle.union_array.specs.Lookup.{orNone}
 use Rattle.union_array.proofs.Columns.{found-id}
 use Rattle.union_array.proofs.Accepted.{ColumnAccepted, AllAccepted, child-accepted}
-use Rattle.logical_nulls.specs.Fields.{Field, noField, stateOf, fieldOf, asColumn}
+use Rattle.null_route.specs.declared.Field.{Field}
+use Rattle.null_route.specs.Fields.{noField, stateOf, fieldOf, asColumn}
+use Rattle.null_route.proofs.FieldStates.{all-present}
 use Rattle.logical_nulls.specs.Steps.{wordOf, fieldPresent, idAt}
 use Rattle.logical_nulls.proofs.Marking.{span-cut}
-use Rattle.logical_nulls.proofs.FieldStates.{all-present}
 use Rattle.logical_nulls.proofs.Strategies.{its-child, its-slot, its-bit}
 use Rattle.logical_nulls.specs.Table.{withoutNulls, store, stored, tableOf, entryAt, gatheredAt, Gathers}
 
@@ -159,7 +160,7 @@ module _ (a : UnionArray) (m : Buffers) (y : AllAccepted a m) (i : ℕ) (h : i <
   child-ok = child-accepted a m (y .array) i (y .slot i h)
 
   -- the id of a slot is its child's
-  id-ok : T (nonNeg (typeIdAt a m i)) × (natAbs (typeIdAt a m i) < 128)
+  pub id-ok : T (nonNeg (typeIdAt a m i)) × (natAbs (typeIdAt a m i) < 128)
   id-ok = valid-plain (typeIdAt a m i) (ap validId (sym (found-id (inUse a) (typeIdAt a m i) c (its-child a m y i h))) ∙ child-ok .valid)
 
   entry-is : entryAt (tableOf (map (fieldOf m) (inUse a))) (m .ids) (a .start) i ≡ cond (ltb 0 (stateOf m c)) (fieldOf m c) withoutNulls

@@ -2,7 +2,7 @@
 use mathlib.Core.Path.{_≡_, refl, sym, ap, ap₂, _∙_}
 use mathlib.Core.Bool.{Bool, true, false, not, _&&_, _||_}
 use mathlib.Core.List.{List, [], _∷_, _++_}
-use Prim.Native.Nat.{ℕ, _+_, _-_, _*_, _%_, _^_, _≤_, _<_, min}
+use Prim.Native.Nat.{ℕ, suc, _+_, _-_, _*_, _%_, _^_, _≤_, _<_, min}
 use native.Mathlib.Nat.{add-assoc, le-of-suc-le-suc, lt-of-not-le}
 use native.Mathlib.Numerals.{add-one}
 use native.Mathlib.Decide.{decLt}
@@ -18,8 +18,9 @@ use Rattle.bitmap.proofs.Words.{pack-ext, pack-none, and-pack, or-pack, not-pac
 use Rattle.union_array.specs.declared.Column.{Column}
 use Rattle.union_array.specs.Buffers.{Buffers, onlyMasks}
 use Rattle.union_array.specs.Slots.{present, presenceChunk}
-use Rattle.logical_nulls.specs.Fields.{Field, noField, asColumn}
-use Rattle.logical_nulls.specs.Steps.{Taken, All, WithNulls, NotFull, any, wordOf, fieldPresent, takes, idAt, chosen, selectedAt, presentAt, skipOneAt, skipWithoutAt, skipFullyAt}
+use Rattle.null_route.specs.declared.Field.{Field}
+use Rattle.null_route.specs.Fields.{noField, asColumn}
+use Rattle.logical_nulls.specs.Steps.{Taken, All, WithNulls, NotFull, any, wordOf, fieldPresent, takes, idAt, orOf, chosen, selectedAt, presentAt, skipOneAt, skipWithoutAt, skipFullyAt}
 
 -- ---- any
 
@@ -46,6 +47,21 @@ pub any-less : (g h : Field → Bool) (l : List Field) → ((f : Field) → h f 
 unfolding any
 any-less g h [] i e = refl
 any-less g h (f ∷ l) i e = let p = or-parts (h f) (any h l) e in ap₂ _||_ (i f (p .0)) (any-less g h l i (p .1))
+
+-- ---- words joined by or
+
+-- from place a on
+module _ (f : ℕ → ℕ) (a : ℕ) where
+  pub or-none : 0 ≡ orOf (a - a) (λ i. f (a + i))
+  unfolding orOf
+  or-none = let z : a - a ≡ 0 = omega arith in sym (ap (λ (n : ℕ). orOf n (λ i. f (a + i))) z)
+
+  pub or-more : (q s x : ℕ) → a ≤ q → s ≡ orOf (q - a) (λ i. f (a + i)) → x ≡ f q → bitOr s x ≡ orOf (q + 1 - a) (λ i. f (a + i))
+  unfolding orOf
+  or-more q s x h es ex =
+      let n : q + 1 - a ≡ suc (q - a) = omega arith in
+      let p : a + (q - a) ≡ q = omega arith in
+      ap₂ bitOr es (ex ∙ ap f (sym p)) ∙ sym (ap (λ (m : ℕ). orOf m (λ i. f (a + i))) n)
 
 -- ---- words
 
@@ -173,21 +189,6 @@ module _ (over : Taken) (fl : List Field) (masks : List ℕ) (ids : List ℤ) (s
           ∙ word-ext len k _ _ (λ i l.
           ap (λ (c : Bool). presentAt over (drop a (take q fl)) masks ids s i || ((c && sameId (idAt ids s i) (getD fl q noField .id)) && fieldPresent masks i (getD fl q noField))) (sym e)
           ∙ sym (some-more (λ f. chosen over (idAt ids s i) f && fieldPresent masks i f)))
-
-    module _ (e : takes over (getD fl q noField .state) ≡ false) where
-      pub selected-same : selectedTo q ≡ selectedTo (q + 1)
-      selected-same =
-          word-ext len k _ _ (λ i l.
-          sym (some-more (chosen over (idAt ids s i))
-          ∙ ap (λ (c : Bool). selectedAt over (drop a (take q fl)) ids s i || (c && sameId (idAt ids s i) (getD fl q noField .id))) e
-          ∙ or-false (selectedAt over (drop a (take q fl)) ids s i)))
-
-      pub present-same : presentTo q ≡ presentTo (q + 1)
-      present-same =
-          word-ext len k _ _ (λ i l.
-          sym (some-more (λ f. chosen over (idAt ids s i) f && fieldPresent masks i f)
-          ∙ ap (λ (c : Bool). presentAt over (drop a (take q fl)) masks ids s i || ((c && sameId (idAt ids s i) (getD fl q noField .id)) && fieldPresent masks i (getD fl q noField))) e
-          ∙ or-false (presentAt over (drop a (take q fl)) masks ids s i)))
 
 -- ---- the word of each step, from the words of its marks
 

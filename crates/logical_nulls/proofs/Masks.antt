@@ -24,15 +24,17 @@ use Rattle.union_array.specs.Questions.{maskIn}
 use Rattle.union_array.specs.Lookup.{orNone}
 use Rattle.union_array.proofs.Columns.{all-found}
 use Rattle.union_array.proofs.Accepted.{AllAccepted, all-accepted, column-at, slots-at}
+use Rattle.null_route.specs.Route.{fullyNull, fullyNulls}
+use Rattle.null_route.specs.declared.Field.{Field}
+use Rattle.null_route.specs.declared.Fields.{Fields}
+use Rattle.null_route.specs.Fields.{noField, stateOf, fieldOf, fieldAt, fieldsOf, asColumn, noFields, inList}
+use Rattle.null_route.proofs.FieldStates.{fields-in, many-all, none-present, not-full}
 use Rattle.logical_nulls.specs.Mask.{LogicalNulls, masked, maskedBy, answerOn}
-use Rattle.logical_nulls.specs.Route.{fullyNull, fullyNulls}
-use Rattle.logical_nulls.specs.Fields.{Field, Fields, noField, stateOf, fieldOf, fieldAt, asColumn, noFields, inList}
-use Rattle.logical_nulls.specs.Steps.{wordsOf, stepAt, Chunk}
+use Rattle.logical_nulls.specs.Steps.{wordsOf, stepAt, FieldsReady}
 use Rattle.logical_nulls.specs.Table.{tableOf, childSlot, gatheredAt, Gathers}
 use Rattle.logical_nulls.specs.Ready.{reads, Ready}
-use Rattle.logical_nulls.proofs.FieldStates.{fields-in, many-all, none-present, not-full}
 use Rattle.logical_nulls.proofs.Strategies.{its-child, its-slot, its-bit, one-is, without-is, fully-is}
-use Rattle.logical_nulls.proofs.Entries.{valid-plain, gathered-is, gathers}
+use Rattle.logical_nulls.proofs.Entries.{valid-plain, id-ok, gathered-is, gathers}
 use Rattle.logical_nulls.proofs.Writing.{words-ext, words-written}
 
 pub not-sparse : (l : Layout) (b : Bool) → byLayout l b false ≡ true → (l ≡ Sparse)
@@ -106,12 +108,19 @@ module _ (a : UnionArray) (fs : Fields) (route : ℕ) (ids offsets : List ℤ) (
       pick false true f g k i x p q s = q
       pick false false f g k i x p q s = s
 
+  -- no field's id is below 0
+  plain-field : (q : ℕ) → q < a .fields → T (nonNeg (getD (fieldsOf a (onlyMasks masks) .list) q noField .id))
+  plain-field q l =
+      let b : q < length (a .columns) = omega (arith, few) in
+      subst (λ (x : Field). T (nonNeg (x .id))) (sym (retable-at (a .fields) (fieldAt (onlyMasks masks) (a .columns)) noFields q noField l))
+      (valid-plain (getD (a .columns) q noColumn .id) (column-at a (amountsOf m) (y .array) q l b .valid) .0)
+
   -- what a step needs
-  pub steps-on : a .layout ≡ Sparse → (k : ℕ) → 64 * k < a .count → Chunk fs masks ids (a .start) (a .count) k
-  steps-on e k h = subst (λ (x : Fields). Chunk x masks ids (a .start) (a .count) k) (sym (r .fields)) record {
+  pub steps-on : a .layout ≡ Sparse → FieldsReady fs masks ids (a .start) (a .count)
+  steps-on e = subst (λ (x : Fields). FieldsReady x masks ids (a .start) (a .count)) (sym (r .fields)) record {
+    slots = record { lent = y .array .ids; plain = λ i l. id-ok a m y i l .0 };
     few = few;
-    lent = y .array .ids;
-    starts = h;
+    named = plain-field;
     held = λ q l.
         let b : q < length (a .columns) = omega (arith, few) in
         let f = retable-at (a .fields) (fieldAt (onlyMasks masks) (a .columns)) noFields q noField l in (
@@ -128,10 +137,7 @@ module _ (a : UnionArray) (fs : Fields) (route : ℕ) (ids offsets : List ℤ) (
   few-fields = subst (λ (x : Fields). x .count ≤ 128) (sym (r .fields)) few
 
   pub plain-ids : (q : ℕ) → q < fs .count → T (nonNeg (getD (fs .list) q noField .id))
-  plain-ids = subst (λ (x : Fields). (q : ℕ) → q < x .count → T (nonNeg (getD (x .list) q noField .id))) (sym (r .fields)) (λ q l.
-      let b : q < length (a .columns) = omega (arith, few) in
-      subst (λ (x : Field). T (nonNeg (x .id))) (sym (retable-at (a .fields) (fieldAt (onlyMasks masks) (a .columns)) noFields q noField l))
-      (valid-plain (getD (a .columns) q noColumn .id) (column-at a (amountsOf m) (y .array) q l b .valid) .0))
+  plain-ids = subst (λ (x : Fields). (q : ℕ) → q < x .count → T (nonNeg (getD (x .list) q noField .id))) (sym (r .fields)) plain-field
 
   module _ (t : List Field) (e : t ≡ tableOf (inList fs)) where
     the-table : t ≡ tableOf (map (fieldOf m) (inUse a))

@@ -22,10 +22,11 @@ use Rattle.union_array.specs.Slots.{inUse, columnOf, isSome, typeIdAt, offsetAt
 use Rattle.union_array.specs.Lookup.{orNone}
 use Rattle.union_array.specs.Questions.{distinct}
 use Rattle.union_array.proofs.Accepted.{AllAccepted, child-is, slot-in}
-use Rattle.logical_nulls.specs.Fields.{Field, noField, stateOf, fieldOf}
+use Rattle.null_route.specs.declared.Field.{Field}
+use Rattle.null_route.specs.Fields.{noField, stateOf, fieldOf}
+use Rattle.null_route.proofs.FieldStates.{all-present, none-present}
 use Rattle.logical_nulls.specs.Steps.{any, fieldPresent, skipOneAt, skipWithoutAt, skipFullyAt}
 use Rattle.logical_nulls.proofs.Marking.{any-ext, any-less}
-use Rattle.logical_nulls.proofs.FieldStates.{all-present, none-present}
 
 not-yes : (b : Bool) → not b ≡ true → b ≡ false
 not-yes true e = absurd (false≢true e)

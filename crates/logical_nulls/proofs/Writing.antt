@@ -1,18 +1,16 @@
--- The words of a mask, written one at a time; and the ways out of the step of a route and of the answer. Assumes nothing.
+-- The words of a mask, written one at a time; and the ways out of the answer. Assumes nothing.
 use mathlib.Core.Path.{_≡_, refl, sym, ap, _∙_}
 use mathlib.Core.Bool.{Bool, true, false, not}
 use mathlib.Core.List.{List}
 use Prim.Native.Nat.{ℕ, _*_, _≤_, _<_}
 use native.Mathlib.Omega.{arith}
-use borrow.Author.Tests.{eq-eqb, ne-eqb, le-leb, lt-leb}
+use borrow.Author.Tests.{le-leb, lt-leb}
 use lib.Dec.{eqb}
-use lib.IntN.{ℤ}
 use Rattle.bitmap.specs.Lists.{retable}
 use Rattle.bitmap.specs.Bits.{wordsFor, written}
 use Rattle.bitmap.proofs.Tables.{retable-ext}
 use Rattle.logical_nulls.specs.Mask.{presentOn, answerOn}
-use Rattle.logical_nulls.specs.Fields.{Field}
-use Rattle.logical_nulls.specs.Steps.{wordOf, wordsOf, skipOneAt, skipWithoutAt, skipFullyAt, stepAt}
+use Rattle.logical_nulls.specs.Steps.{wordOf, wordsOf}
 use Rattle.logical_nulls.proofs.Marking.{word-ext, word-none}
 
 module _ (len : ℕ) where
@@ -35,21 +33,6 @@ module _ (len : ℕ) where
 
   pub null-word : (k : ℕ) → 0 ≡ wordOf len (λ i. false) k
   null-word k = sym (word-none len k (λ i. false) (λ i h. refl))
-
--- ---- the step of a route
-
-module _ (route : ℕ) (fs : List Field) (masks : List ℕ) (ids : List ℤ) (start len k : ℕ) where
-  pub step-5 : route ≡ 5 → wordOf len (skipWithoutAt fs masks ids start) k ≡ wordOf len (stepAt route fs masks ids start) k
-  unfolding stepAt
-  step-5 e = rw (eq-eqb route 5 e)
-
-  pub step-6 : (route ≡ 5 → ⊥) → route ≡ 6 → wordOf len (skipFullyAt fs masks ids start) k ≡ wordOf len (stepAt route fs masks ids start) k
-  unfolding stepAt
-  step-6 h e = rw (ne-eqb route 5 h, eq-eqb route 6 e)
-
-  pub step-4 : (route ≡ 5 → ⊥) → (route ≡ 6 → ⊥) → wordOf len (skipOneAt fs masks ids start) k ≡ wordOf len (stepAt route fs masks ids start) k
-  unfolding stepAt
-  step-4 h e = rw (ne-eqb route 5 h, ne-eqb route 6 e)
 
 -- ---- the answer
 

@@ -12,8 +12,9 @@ use Rattle.union_array.specs.declared.UnionArray.{UnionArray}
 use Rattle.union_array.specs.Types.{byLayout}
 use Rattle.union_array.specs.Buffers.{Buffers, buffersOf, onlyMasks}
 use Rattle.union_array.specs.Questions.{checked}
-use Rattle.logical_nulls.specs.Route.{fullyNulls}
-use Rattle.logical_nulls.specs.Fields.{Fields, fieldsOf}
+use Rattle.null_route.specs.Route.{fullyNulls}
+use Rattle.null_route.specs.declared.Fields.{Fields}
+use Rattle.null_route.specs.Fields.{fieldsOf}
 use Rattle.logical_nulls.specs.Mask.{LogicalNulls, SparseStrategy, Gather, SkipOne, SkipWithoutNulls, SkipFullyNull}
 
 -- lent memory of which type ids, offsets and mask words matter

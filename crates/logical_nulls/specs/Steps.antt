@@ -2,18 +2,23 @@
 use mathlib.Core.Path.{_≡_}
 use mathlib.Core.Bool.{Bool, true, false, cond, not, _&&_, _||_}
 use mathlib.Core.List.{List, [], _∷_}
-use Prim.Native.Nat.{ℕ, _+_, _*_, _≤_, _<_}
-use lib.Dec.{eqb, ltb}
+use Prim.Native.Nat.{ℕ, zero, suc, _+_, _-_, _*_, _%_, _^_, _≤_, _<_}
+use lib.Dec.{T, eqb, ltb}
 use lib.IntN.{ℤ, pos}
-use lib.ListN.{getD, drop, length}
+use lib.ListN.{getD, take, drop, length}
+use lib.Bits.{bitAnd, bitOr}
+use lib.Signed.{nonNeg}
 use Rattle.bitmap.specs.Lists.{retable}
-use Rattle.bitmap.specs.Bits.{pack, wordsFor, sameId}
+use Rattle.bitmap.specs.Bits.{pack, wordsFor, sameId, selectionOf}
 use Rattle.union_array.specs.Buffers.{onlyMasks}
 use Rattle.union_array.specs.Slots.{present}
 use Rattle.union_array.specs.Questions.{maskIn}
-use Rattle.logical_nulls.specs.Fields.{Field, Fields, noField, asColumn}
+use Rattle.null_route.specs.declared.Field.{Field}
+use Rattle.null_route.specs.declared.Fields.{Fields}
+use Rattle.null_route.specs.Fields.{noField, asColumn}
 pub use Rattle.logical_nulls.specs.declared.Taken.{Taken}
 pub use Rattle.logical_nulls.specs.declared.Taken.the-variants.{All, WithNulls, NotFull}
+pub use Rattle.logical_nulls.specs.declared.TakenFields.{TakenFields}
 pub use Rattle.logical_nulls.specs.declared.Marks.{Marks}
 
 -- some field passes
@@ -54,10 +59,6 @@ selectedAt over fs ids start i = any (chosen over (idAt ids start i)) fs
 abbrev pub presentAt : Taken → List Field → List ℕ → List ℤ → ℕ → ℕ → Bool
 presentAt over fs masks ids start i = any (λ f. chosen over (idAt ids start i) f && fieldPresent masks i f) fs
 
-abbrev pub marksOf : Taken → List Field → List ℕ → List ℤ → ℕ → ℕ → ℕ → Marks
-marksOf over fs masks ids start len k =
-    record { selected = wordOf len (selectedAt over fs ids start) k; present = wordOf len (presentAt over fs masks ids start) k }
-
 -- SkipOne: of another field and present, or of no other field and the first child's bit
 unfoldable pub skipOneAt : List Field → List ℕ → List ℤ → ℕ → ℕ → Bool
 skipOneAt fs masks ids start i =
@@ -76,9 +77,102 @@ unfoldable pub stepAt : ℕ → List Field → List ℕ → List ℤ → ℕ →
 stepAt route fs masks ids start =
     cond (eqb route 5) (skipWithoutAt fs masks ids start) (cond (eqb route 6) (skipFullyAt fs masks ids start) (skipOneAt fs masks ids start))
 
--- what a step needs: word k of len slots, whose type ids, and whose mask bits in each child, are lent
-pub record Chunk (fs : Fields) (masks : List ℕ) (ids : List ℤ) (start len k : ℕ) : Type 0 where
+-- ---- the same by words, from the ids of a run of n slots and the presence chunks of the fields that are taken up
+
+-- what the strategy of a route takes up
+abbrev pub overOf : ℕ → Taken
+overOf route = cond (eqb route 5) WithNulls (cond (eqb route 6) NotFull All)
+
+-- f 0, .., f (n - 1) joined by or
+unfoldable pub orOf : ℕ → (ℕ → ℕ) → ℕ
+orOf zero f = 0
+orOf (suc n) f = bitOr (orOf n f) (f n)
+
+-- a word with each of its bits inverted
+abbrev pub inverse : ℕ → ℕ
+inverse x = (2 ^ 64 - 1) - x
+
+-- the selection mask of field q
+abbrev pub fieldMask : List ℕ → List ℤ → ℕ → ℕ → ℕ → ℕ
+fieldMask fields ids s n q = selectionOf ids s n (pos (getD fields q 0))
+
+-- of the fields from place `from` on
+abbrev pub marksOf : List ℕ → List ℕ → ℕ → ℕ → List ℤ → ℕ → ℕ → Marks
+marksOf fields chunks from count ids s n = record {
+  selected = orOf (count - from) (λ q. fieldMask fields ids s n (from + q));
+  present = orOf (count - from) (λ q. bitAnd (fieldMask fields ids s n (from + q)) (getD chunks (from + q) 0));
+}
+
+-- SkipOne: of another field and present, or of no other field and in the first chunk
+unfoldable pub skipOneWord : List ℕ → List ℕ → ℕ → List ℤ → ℕ → ℕ → ℕ
+skipOneWord fields chunks count ids s n =
+    let m = marksOf fields chunks 1 count ids s n in
+    bitOr (m .present) (bitAnd (inverse (m .selected)) (getD chunks 0 0))
+
+-- SkipWithoutNulls: of a field and present, or of no field; cut to the n slots
+unfoldable pub skipWithoutWord : List ℕ → List ℕ → ℕ → List ℤ → ℕ → ℕ → ℕ
+skipWithoutWord fields chunks count ids s n =
+    let m = marksOf fields chunks 0 count ids s n in
+    bitOr (m .present) (inverse (m .selected)) % 2 ^ n
+
+-- SkipFullyNull: of a field and present
+unfoldable pub skipFullyWord : List ℕ → List ℕ → ℕ → List ℤ → ℕ → ℕ → ℕ
+skipFullyWord fields chunks count ids s n = marksOf fields chunks 0 count ids s n .present
+
+unfoldable pub stepWord : ℕ → List ℕ → List ℕ → ℕ → List ℤ → ℕ → ℕ → ℕ
+stepWord route fields chunks count ids s n =
+    cond (eqb route 5) (skipWithoutWord fields chunks count ids s n)
+    (cond (eqb route 6) (skipFullyWord fields chunks count ids s n) (skipOneWord fields chunks count ids s n))
+
+-- ---- what the functions need and give
+
+abbrev pub inTaken : TakenFields → List Field
+inTaken t = take (t .count) (t .list)
+
+-- the fields of a list that are taken up
+unfoldable pub takenOf : Taken → List Field → List Field
+takenOf over [] = []
+takenOf over (f ∷ fs) = cond (takes over (f .state)) (f ∷ takenOf over fs) (takenOf over fs)
+
+-- the first `count` fields have these ids
+abbrev pub Named : List Field → List ℕ → ℕ → Type 0
+Named fs ids count = (q : ℕ) → q < count → (getD fs q noField .id ≡ pos (getD ids q 0)) × (getD ids q 0 < 128)
+
+-- t has the fields of a list that are taken up, and their ids
+pub record Took (over : Taken) (fs : List Field) (t : TakenFields) : Type 0 where
+  pub few : t .count ≤ 128
+  pub size : t .count ≡ length (takenOf over fs)
+  pub list : inTaken t ≡ takenOf over fs
+  pub named : Named (t .list) (t .ids) (t .count)
+
+-- n type ids are lent, of which none is below 0
+pub record LentIds (ids : List ℤ) (start n : ℕ) : Type 0 where
+  pub lent : start + n ≤ length ids
+  pub plain : (i : ℕ) → i < n → T (nonNeg (idAt ids start i))
+
+-- what a step needs: a run of at most 64 type ids, and fields whose ids are 0 to 127
+pub record RunReady (fields : List ℕ) (count : ℕ) (ids : List ℤ) (start n : ℕ) : Type 0 where
+  pub slots : LentIds ids start n
+  pub short : n ≤ 64
+  pub few : count ≤ 128
+  pub named : (q : ℕ) → q < count → getD fields q 0 < 128
+
+-- a child has len slots, whose mask bits are lent
+abbrev pub Held : List ℕ → ℕ → Field → Type 0
+Held masks len f = (maskIn (asColumn f) (length masks) ≡ true) × (len ≤ f .slots)
+
+-- what the steps of a route need of the fields that it takes up
+pub record TakenReady (route : ℕ) (t : TakenFields) (masks : List ℕ) (ids : List ℤ) (start len : ℕ) : Type 0 where
+  pub slots : LentIds ids start len
+  pub few : t .count ≤ 128
+  pub some : overOf route ≡ All → 1 ≤ t .count
+  pub fits : (q : ℕ) → q < t .count → takes (overOf route) (getD (t .list) q noField .state) ≡ true
+  pub named : Named (t .list) (t .ids) (t .count)
+  pub held : (q : ℕ) → q < t .count → Held masks len (getD (t .list) q noField)
+
+-- what they need of all fields
+pub record FieldsReady (fs : Fields) (masks : List ℕ) (ids : List ℤ) (start len : ℕ) : Type 0 where
+  pub slots : LentIds ids start len
   pub few : fs .count ≤ 128
-  pub lent : start + len ≤ length ids
-  pub starts : 64 * k < len
-  pub held : (q : ℕ) → q < fs .count → (maskIn (asColumn (getD (fs .list) q noField)) (length masks) ≡ true) × (len ≤ getD (fs .list) q noField .slots)
+  pub named : (q : ℕ) → q < fs .count → T (nonNeg (getD (fs .list) q noField .id))
+  pub held : (q : ℕ) → q < fs .count → Held masks len (getD (fs .list) q noField)

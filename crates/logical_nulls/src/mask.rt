@@ -4,11 +4,11 @@ ghost use Rattle.union_array.specs.Buffers.{buffersOf};
 ghost use Rattle.logical_nulls.specs.Mask.{masked, logicalNullsOf};
 ghost use Rattle.logical_nulls.specs.Ready.{refusedWith};
 use crate::LogicalNulls;
-use crate::Processor;
-use crate::Setting;
-use crate::route;
-use crate::states;
 use crate::words;
+use null_route::Processor;
+use null_route::Setting;
+use null_route::route;
+use null_route::states;
 use union_array::UnionArray;
 use union_array::check;
 

@@ -6,13 +6,13 @@ ghost use lib.Dec.{T};
 ghost use lib.ListN.{length, getD};
 ghost use lib.IntN.{pos};
 ghost use lib.Signed.{nonNeg};
-ghost use Rattle.logical_nulls.specs.Fields.{noField, inList};
 ghost use Rattle.bitmap.specs.Bits.{wordsFor};
+ghost use Rattle.null_route.specs.Fields.{noField, inList};
 ghost use Rattle.logical_nulls.specs.Steps.{wordsOf};
 ghost use Rattle.logical_nulls.specs.Table.{tableOf, childSlot, gatheredAt, Reach, Gathers};
-use crate::Field;
-use crate::Fields;
-use crate::states;
+use null_route::Field;
+use null_route::Fields;
+use null_route::states;
 use union_array::Layout;
 use union_array::presence;
 

@@ -1,38 +1,84 @@
 // The words of the null mask, by route.
 ghost use mathlib.Core.Path.{_≡_};
 ghost use mathlib.Core.Bool.{false, not};
-ghost use Prim.Native.Nat.{ℕ, _*_, _^_, _<_, _≤_};
+ghost use Prim.Native.Nat.{_^_, _<_, _≤_};
 ghost use lib.Dec.{eqb};
 ghost use lib.ListN.{length};
 ghost use Rattle.union_array.specs.Types.{byLayout};
 ghost use Rattle.bitmap.specs.Bits.{wordsFor, written};
 ghost use Rattle.union_array.specs.Slots.{slotNull};
+ghost use Rattle.null_route.specs.Fields.{inList};
 ghost use Rattle.logical_nulls.specs.Mask.{masked, maskedBy, presentOn, answerOn};
-ghost use Rattle.logical_nulls.specs.Fields.{inList};
-ghost use Rattle.logical_nulls.specs.Steps.{wordOf, wordsOf, stepAt, Chunk};
+ghost use Rattle.logical_nulls.specs.Steps.{All, inTaken, overOf, stepWord, wordsOf, stepAt, RunReady, TakenReady, FieldsReady};
 ghost use Rattle.logical_nulls.specs.Ready.{reads, Ready};
-use crate::Fields;
 use crate::LogicalNulls;
+use crate::TakenFields;
 use crate::steps;
 use crate::table;
+use crate::taking;
+use null_route::Fields;
+use null_route::states;
 use union_array::Layout;
 use union_array::UnionArray;
+use union_array::presence;
 
-// Word k by the step of its route.
-fn step(route: u8, fs: Fields, masks: &[u64], ids: &[i8], start: usize, len: usize, k: usize) -> u64
-    requires { ⌜ Chunk fs (now masks) (now ids) start len k × (1 ≤ fs .count) ⌝ }
-    ensures { λ r. ⌜ r ≡ wordOf len (stepAt route (inList fs) (now (masks .entry)) (now (ids .entry)) start) k ⌝ }
+// A word by the step of its route.
+fn step(
+    route: u8,
+    fields: &[u8; 128],
+    chunks: &[u64; 128],
+    count: usize,
+    ids: &[i8],
+    start: usize,
+    n: usize,
+) -> u64
+    requires { ⌜ RunReady (now fields) count (now ids) start n × ((overOf route ≡ All) → 1 ≤ count) ⌝ }
+    ensures { λ r. ⌜ r ≡ stepWord route (now (fields .entry)) (now (chunks .entry)) count (now (ids .entry)) start n ⌝ }
 {
     if route == 5 {
-        return steps::skip_without_nulls(fs, masks, ids, start, len, k);
+        return steps::skip_without_nulls(fields, chunks, count, ids, start, n);
     }
     if route == 6 {
-        return steps::skip_fully_null(fs, masks, ids, start, len, k);
+        return steps::skip_fully_null(fields, chunks, count, ids, start, n);
     }
-    steps::skip_one(fs, masks, ids, start, len, k)
+    steps::skip_one(fields, chunks, count, ids, start, n)
 }
 
-// The mask by the step of its route. Later words keep what they have.
+// The mask by the step of its route, of the fields that it takes up. Later words keep what they have. The loop over the fields
+// stands here, since a call for each word would copy them.
+fn write_words(
+    route: u8,
+    t: TakenFields,
+    masks: &[u64],
+    ids: &[i8],
+    start: usize,
+    len: usize,
+    out: &mut [u64],
+)
+    requires { ⌜ (len < 2 ^ 63) × (wordsFor len ≤ length (now out)) ⌝ }
+    requires { ⌜ TakenReady route t (now masks) (now ids) start len ⌝ }
+    ensures { λ _. ⌜ now (out .exit) ≡ wordsOf len (stepAt route (inTaken t) (now (masks .entry)) (now (ids .entry)) start) (now (out .entry)) ⌝ }
+{
+    let words = bitmap::words_for(len);
+    let used = t.count;
+    let fields = t.ids;
+    let mut chunks = [0u64; 128];
+    let mut k: usize = 0;
+    while k < words {
+        let mut q: usize = 0;
+        while q < used {
+            let c = states::as_column(t.list[q]);
+            chunks[q] = presence::presence_chunk(c, masks, len, k);
+            q += 1;
+        }
+        let done = 64 * k;
+        let n = bitmap::span(len - done);
+        out[k] = step(route, &fields, &chunks, used, ids, start + done, n);
+        k += 1;
+    }
+}
+
+// The mask by the step of its route.
 fn write_steps(
     route: u8,
     fs: Fields,
@@ -43,16 +89,11 @@ fn write_steps(
     out: &mut [u64],
 )
     requires { ⌜ (len < 2 ^ 63) × (wordsFor len ≤ length (now out)) × (1 ≤ fs .count) ⌝ }
-    requires { ⌜ ((k : ℕ) → 64 * k < len → Chunk fs (now masks) (now ids) start len k) ⌝ }
+    requires { ⌜ FieldsReady fs (now masks) (now ids) start len ⌝ }
     ensures { λ _. ⌜ now (out .exit) ≡ wordsOf len (stepAt route (inList fs) (now (masks .entry)) (now (ids .entry)) start) (now (out .entry)) ⌝ }
 {
-    let n = bitmap::words_for(len);
-    let mut k: usize = 0;
-    while k < n {
-        let x = step(route, fs, masks, ids, start, len, k);
-        out[k] = x;
-        k += 1;
-    }
+    let t = taking::taken_fields(fs, taking::over_of(route));
+    write_words(route, t, masks, ids, start, len, out);
 }
 
 // A mask of nulls alone. Later words keep what they have.

@@ -9,6 +9,7 @@ pub mod Checked
 pub mod Present
 pub mod Values
 pub mod ChildSlots
+pub mod Known
 pub mod Lookups
 pub mod Sliced
 pub mod SlicedSlots

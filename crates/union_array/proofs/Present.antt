@@ -7,10 +7,9 @@ use native.Mathlib.Decide.{decLt}
 use native.Mathlib.Omega.{arith}
 use borrow.Author.Tests.{lt-ltb, le-ltb}
 use lib.Dec.{ltb}
-use Rattle.bitmap.specs.Bits.{pack, count, bitAt, chunkOf}
-use Rattle.bitmap.specs.Counting.{clearIn}
-use Rattle.bitmap.proofs.Words.{count-le, pack-ext, pack-none, not-pack, low-pack}
-use Rattle.bitmap.proofs.Counts.{word-fits, word-clear}
+use Rattle.bitmap.specs.Bits.{pack, bitAt, chunkOf, nullsOf}
+use Rattle.bitmap.proofs.Words.{count-ext, pack-ext, pack-none, not-pack, low-pack}
+use Rattle.bitmap.proofs.Counts.{count-none}
 use Rattle.union_array.specs.Types.{Column}
 use Rattle.union_array.specs.Buffers.{Buffers, onlyMasks}
 use Rattle.union_array.specs.Slots.{present, presenceChunk, nullsIn}
@@ -59,28 +58,10 @@ module _ (c : Column) (m : Buffers) where
 
   -- ---- the count
 
-  -- the nulls of the first n slots
-  unfoldable pub nullsBelow : ℕ → ℕ
-  nullsBelow n = count n (λ p. not (present c m p))
+  pub nulls-masked : c .masked ≡ true → nullsOf (m .masks) (64 * c .mask + c .bit) (c .slots) ≡ nullsIn c m
+  unfolding nullsOf nullsIn
+  nulls-masked e = count-ext (c .slots) _ _ (λ p h. ap not (ap (bitAt (m .masks)) (add-assoc (64 * c .mask) (c .bit) p) ∙ by-mask e p))
 
-  pub below-none : nullsBelow 0 ≡ 0
-  unfolding nullsBelow count
-  below-none = refl
-
-  pub below-le : (n : ℕ) → nullsBelow n ≤ n
-  unfolding nullsBelow
-  below-le n = count-le n (λ p. not (present c m p))
-
-  pub below-all : nullsBelow (c .slots) ≡ nullsIn c m
-  unfolding nullsBelow nullsIn
-  below-all = refl
-
-  pub chunk-fits : (len k x n : ℕ) → x ≡ presenceChunk c m len k → n ≡ min 64 (len - 64 * k) → x < 2 ^ n
-  unfolding presenceChunk
-  chunk-fits len k x n e q = rw (e, q) (word-fits (present c m) len k)
-
-  -- one more turn: the nulls of the chunks before, and the clear bits of chunk k
-  pub chunk-turn : (len k t x n : ℕ) → 64 * k < len → t ≡ nullsBelow (min (64 * k) len) → x ≡ presenceChunk c m len k → n ≡ min 64 (len - 64 * k)
-      → t + clearIn x n ≡ nullsBelow (min (64 * (k + 1)) len)
-  unfolding nullsBelow presenceChunk
-  chunk-turn len k t x n h e q r = rw (e, q, r) (word-clear (present c m) len k h)
+  pub nulls-free : c .masked ≡ false → 0 ≡ nullsIn c m
+  unfolding nullsIn
+  nulls-free e = sym (count-none (c .slots) _ (λ p h. ap not (sym (no-mask e p))))

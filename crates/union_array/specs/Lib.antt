@@ -6,6 +6,7 @@ pub mod Slots
 pub mod Questions
 pub mod Lookup
 pub mod Slices
+-- What the contracts of inner functions cite.
 pub mod Look
 pub mod Pass
 pub mod Check

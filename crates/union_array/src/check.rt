@@ -1,13 +1,14 @@
 // Questions 7 and 8 of every slot, and try_new.
 ghost use mathlib.Core.Path.{_≡_};
+ghost use mathlib.Core.Bool.{true};
 ghost use mathlib.Core.List.{[]};
 ghost use Prim.Native.Nat.{_+_, _≤_};
 ghost use lib.ListN.{length, take};
 ghost use Rattle.bitmap.specs.Lists.{every};
 ghost use Rattle.union_array.specs.Types.{Dense};
 ghost use Rattle.union_array.specs.Buffers.{buffersOf};
-ghost use Rattle.union_array.specs.Slots.{offsetAt, childAt};
-ghost use Rattle.union_array.specs.Questions.{within, withinChild, question7, checked};
+ghost use Rattle.union_array.specs.Slots.{offsetAt, childAt, inUse, all};
+ghost use Rattle.union_array.specs.Questions.{validId, within, withinChild, question7, checked};
 ghost use Rattle.union_array.specs.Lookup.{tryNewOf};
 ghost use Rattle.union_array.specs.Check.{onlySlots, Readable, slotTable, slotsChecked};
 use crate::Amounts;
@@ -27,21 +28,24 @@ pub fn is_within(x: i32, n: u32) -> bool
     (x as u32) < n
 }
 
-// 7. Does each type id name a field? The first slot that matches no field ends the whole check.
+// 7. Does each type id name a field? The first slot that matches no field ends the whole check. An id that was matched before is known.
 fn ids_named(a: UnionArray, type_ids: &[i8]) -> bool
-    requires { ⌜ (a .fields ≤ 128) × (a .start + a .count ≤ length (now «type_ids»)) ⌝ }
+    requires { ⌜ (a .fields ≤ 128) × (a .start + a .count ≤ length (now «type_ids»)) × (all (λ c. validId (c .id)) (inUse a) ≡ true) ⌝ }
     ensures { λ r. ⌜ r ≡ question7 a (onlySlots (now («type_ids» .entry)) []) ⌝ }
 {
-    let start = a.start;
-    let n = a.count;
-    let fields = a.fields;
+    let mut known = [false; 256];
     let mut ok = true;
     let mut i: usize = 0;
-    'slots: while i < n {
-        let id = type_ids[start + i];
+    'slots: while i < a.count {
+        let id = type_ids[a.start + i];
+        let entry = entry_of(id);
+        if known[entry] {
+            i += 1;
+            continue;
+        }
         let mut j: usize = 0;
         loop {
-            if j == fields {
+            if j == a.fields {
                 ok = false;
                 break 'slots;
             }
@@ -51,6 +55,7 @@ fn ids_named(a: UnionArray, type_ids: &[i8]) -> bool
             }
             j += 1;
         }
+        known[entry] = true;
         i += 1;
     }
     ok

@@ -36,13 +36,8 @@ pub fn null_count(c: Column, masks: &[u64]) -> NullCount
     requires { ⌜ maskIn c (length (now masks)) ≡ true ⌝ }
     ensures { λ r. ⌜ r .nulls ≡ nullsIn c (onlyMasks (now (masks .entry))) ⌝ }
 {
-    let len = c.slots as usize;
-    let mut n = bitmap::empty_count();
-    let mut k: usize = 0;
-    while 64 * k < len {
-        let x = presence_chunk(c, masks, len, k);
-        n = bitmap::counted(n, x, bitmap::span(len - 64 * k));
-        k += 1;
+    if c.masked {
+        return bitmap::null_count(masks, c.mask, c.bit as usize, c.slots as usize);
     }
-    n
+    bitmap::empty_count()
 }

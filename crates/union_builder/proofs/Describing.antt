@@ -18,12 +18,12 @@ use Rattle.union_array.specs.declared.UnionArray.{UnionArray}
 use Rattle.union_array.specs.declared.Layout.{Layout}
 use Rattle.union_array.specs.Types.{byLayout, noColumn}
 use Rattle.union_array.specs.Buffers.{Buffers}
+use Rattle.union_names.specs.Order.{nameBy, orderedIds, NamesHeld, Listed}
+use Rattle.union_names.proofs.Listing.{listed-id}
 use Rattle.union_builder.specs.Builder.{BuilderColumn, UnionBuilder, column, nameAt}
 use Rattle.union_builder.specs.Finish.{Named, ordered, assembled, finishedColumn, namedColumn, describe}
-use Rattle.union_builder.specs.Order.{nameBy, orderedIds, NamesHeld, Listed}
 use Rattle.union_builder.specs.Describe.{sizesOf, blankOf, columnFrom, filled, relisted, filledOf, Fillable, Describable}
-use Rattle.union_builder.proofs.IdOrder.{ordered-by-id, ordered-ext}
-use Rattle.union_builder.proofs.Listing.{listed-id}
+use Rattle.union_builder.proofs.ColumnOrder.{ordered-by-id, ordered-ext}
 
 -- ---- the steps
 

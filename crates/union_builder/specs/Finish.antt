@@ -12,7 +12,7 @@ use Rattle.union_array.specs.declared.Layout.the-variants.{Sparse}
 use Rattle.union_array.specs.Types.{byLayout, noColumn, noArray}
 use Rattle.union_array.specs.Buffers.{Buffers, amountsOf}
 use Rattle.union_array.specs.Refusal.{ifYes}
-use Rattle.union_builder.specs.Names.{nameUpTo}
+use Rattle.union_names.specs.Names.{nameUpTo}
 use Rattle.union_builder.specs.Builder.{UnionBuilder, column, empty, builderChecked, nameAt}
 pub use Rattle.union_builder.specs.declared.Length.{Length}
 pub use Rattle.union_builder.specs.declared.Finished.{Finished}

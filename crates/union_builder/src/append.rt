@@ -1,20 +1,66 @@
 // One append, of a value or of a null.
 use crate::Appended;
+use crate::Plan;
 use crate::UnionBuilder;
-use crate::columns::grow;
+use crate::columns::grown_column;
+use crate::columns::if_sparse;
+use crate::columns::own_column;
+use crate::planning::head_of;
 use crate::planning::plan;
+use crate::questions::builder_checked;
+use crate::slots::in_column;
 use crate::store::store;
 use union_array::Amounts;
 use union_array::Kind;
 ghost use mathlib.Core.Path.{_≡_};
-ghost use Rattle.union_array.specs.Buffers.{buffersOf};
+ghost use Rattle.union_array.specs.Buffers.{buffersOf, amountsOf};
+ghost use Rattle.union_builder.specs.Builder.{builderChecked};
 ghost use Rattle.union_builder.specs.Append.{outcome};
 ghost use Rattle.union_builder.specs.Writing.{valueOf};
-ghost use Rattle.union_builder.specs.Planning.{appendedOf};
+ghost use Rattle.union_builder.specs.Planning.{Sound, answerBy, appendedOf};
 
-// Appends a value's word, or a null.
-pub(crate) fn append_slot(
+// Plans an append, and writes what it adds. `checked` is the first no of 15 and 16, or 0. The builder itself stays: `grow` gives the next.
+pub fn append_step(
     b: UnionBuilder,
+    checked: u8,
+    name: &[u8],
+    kind: Kind,
+    word: u64,
+    present: bool,
+    type_ids: &mut [i8],
+    offsets: &mut [i32],
+    values: &mut [u64],
+    masks: &mut [u64],
+    names: &mut [u8],
+) -> Plan
+    requires { ⌜ checked ≡ builderChecked b (amountsOf (buffersOf (now «type_ids») (now offsets) (now values) (now masks) (now names))) ⌝ }
+    ensures { λ r. ⌜ (r .refusal ≡ 0 → Sound b r) ⌝ }
+    ensures { λ r. ⌜
+        outcome (answerBy b r (valueOf present 0)) (buffersOf (now («type_ids» .exit)) (now (offsets .exit)) (now (values .exit)) (now (masks .exit)) (now (names .exit)))
+        ≡ appendedOf b (buffersOf (now («type_ids» .entry)) (now (offsets .entry)) (now (values .entry)) (now (masks .entry)) (now (names .entry))) (now (name .entry)) kind (valueOf present word) ⌝ }
+{
+    let p = plan(b, checked, names, name, kind);
+    if p.refusal != 0 {
+        return p;
+    }
+    store(
+        head_of(b),
+        p,
+        name,
+        word,
+        present,
+        type_ids,
+        offsets,
+        values,
+        masks,
+        names,
+    );
+    p
+}
+
+// Appends a value's word, or a null. The builder grows in place: `grow` would copy the columns.
+pub(crate) fn append_slot(
+    mut b: UnionBuilder,
     name: &[u8],
     kind: Kind,
     word: u64,
@@ -36,17 +82,11 @@ pub(crate) fn append_slot(
         masks: masks.len(),
         names: names.len(),
     };
-    let p = plan(b, lent, names, name, kind);
-    if p.refusal != 0 {
-        return Appended {
-            builder: b,
-            refusal: p.refusal,
-        };
-    }
-    store(
+    let step = append_step(
         b,
-        p,
+        builder_checked(b, lent),
         name,
+        kind,
         word,
         present,
         type_ids,
@@ -55,8 +95,25 @@ pub(crate) fn append_slot(
         masks,
         names,
     );
+    if step.refusal != 0 {
+        return Appended {
+            builder: b,
+            refusal: step.refusal,
+        };
+    }
+    let id = step.id;
+    let c = step.column;
+    let layout = b.layout;
+    b.len = b.len + 1;
+    b.count = step.count;
+    b.columns[id] = own_column(layout, c, present);
+    let n = if_sparse(layout, step.count);
+    for k in 0..n {
+        let c = b.columns[k];
+        b.columns[k] = grown_column(c, !in_column(k, id, present));
+    }
     Appended {
-        builder: grow(b, p, present),
+        builder: b,
         refusal: 0,
     }
 }

@@ -14,12 +14,12 @@ ghost use Rattle.union_builder.specs.Append.{opened};
 ghost use Rattle.union_builder.specs.Writing.{valueOf};
 ghost use Rattle.union_builder.specs.Planning.{grownBy, Short, withColumns, rowAfter, Sound, settled};
 
-// The slots of a new column: in sparse as many nulls as there are slots.
-pub(crate) fn first_slots(layout: Layout, len: usize) -> usize
-    ensures { λ r. ⌜ r ≡ byLayout layout len 0 ⌝ }
+// A number in a sparse builder, 0 in a dense one.
+pub(crate) fn if_sparse(layout: Layout, n: usize) -> usize
+    ensures { λ r. ⌜ r ≡ byLayout layout n 0 ⌝ }
 {
     match layout {
-        Layout::Sparse => len,
+        Layout::Sparse => n,
         Layout::Dense => 0,
     }
 }
@@ -38,7 +38,7 @@ pub(crate) fn opened_column(name: &[u8], kind: Kind, n: usize) -> BuilderColumn
 }
 
 // The column with one slot more, a null or not.
-fn grown_column(c: BuilderColumn, null: bool) -> BuilderColumn
+pub fn grown_column(c: BuilderColumn, null: bool) -> BuilderColumn
     requires { ⌜ c .slots < 65536 ⌝ }
     ensures { λ r. ⌜ r ≡ grownBy c null ⌝ }
 {
@@ -48,6 +48,17 @@ fn grown_column(c: BuilderColumn, null: bool) -> BuilderColumn
         size: c.size,
         kind: kind,
         masked: c.masked || null,
+    }
+}
+
+// The column of an append before a row is added: in dense with its slot, which has no row.
+pub(crate) fn own_column(layout: Layout, c: BuilderColumn, present: bool) -> BuilderColumn
+    requires { ⌜ c .slots < 65536 ⌝ }
+    ensures { λ r. ⌜ r ≡ byLayout layout c (grownBy c (not present)) ⌝ }
+{
+    match layout {
+        Layout::Sparse => c,
+        Layout::Dense => grown_column(c, !present),
     }
 }
 
@@ -65,7 +76,7 @@ fn grow_row(mut b: UnionBuilder, id: usize, present: bool) -> UnionBuilder
 }
 
 // The builder once an append is done as planned.
-pub(crate) fn grow(mut b: UnionBuilder, p: Plan, present: bool) -> UnionBuilder
+pub fn grow(mut b: UnionBuilder, p: Plan, present: bool) -> UnionBuilder
     requires { ⌜ Sound b p ⌝ }
     ensures { λ r. ⌜ r ≡ settled b p (valueOf present 0) ⌝ }
 {

@@ -6,13 +6,10 @@ pub mod find;
 pub mod finish;
 pub mod kinds;
 pub mod lent;
-pub mod names;
-pub mod order;
 pub mod planning;
 pub mod questions;
 pub mod slots;
 pub mod store;
-pub mod utf8;
 
 use union_array::Kind;
 use union_array::Layout;
@@ -62,19 +59,20 @@ pub struct Finished {
     pub refusal: u8,
 }
 
-// The bytes that a character still wants: `left` of them, the next from `low` to `high`, each later one from 0x80 to 0xbf.
-pub struct Expected {
-    pub low: u8,
-    pub high: u8,
-    pub left: u8,
+// A builder but for its columns.
+pub struct BuilderHead {
+    pub capacity: usize,
+    pub limit: usize,
+    pub len: usize,
+    pub count: usize,
+    pub layout: Layout,
 }
 
-// What a pass over the columns found: whether all of them fit, and the first one with the name, if it is known.
+// The first column with a name, if it is known.
 pub struct Found {
     pub column: BuilderColumn,
     pub id: usize,
     pub known: bool,
-    pub fits: bool,
 }
 
 // What an append is to do: its column as it is before the new slot, the columns in use after, and whether the name is new.

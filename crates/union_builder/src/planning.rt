@@ -1,27 +1,25 @@
-// Questions 15 to 20 of an append, and where it goes.
+// Questions 17 to 20 of an append, and where it goes.
+use crate::BuilderHead;
 use crate::Found;
 use crate::Plan;
 use crate::UnionBuilder;
-use crate::columns::first_slots;
+use crate::columns::if_sparse;
 use crate::columns::opened_column;
 use crate::find::look;
 use crate::find::no_column;
 use crate::kinds::same_kind;
-use crate::questions::lent_fits;
-use crate::questions::numbers_fit;
-use crate::utf8::name_fits;
-use union_array::Amounts;
 use union_array::Kind;
+use union_names::utf8::name_fits;
 ghost use mathlib.Core.Path.{_≡_};
-ghost use mathlib.Core.Bool.{true, _&&_};
 ghost use Prim.Native.Nat.{_≤_};
 ghost use lib.ListN.{length};
-ghost use Rattle.union_builder.specs.Builder.{column, namesOf};
-ghost use Rattle.union_builder.specs.Finding.{onlyNames, atOf};
-ghost use Rattle.union_builder.specs.Planning.{refusedPlan, restOf, planOf};
+ghost use Rattle.union_builder.specs.Builder.{namesOf};
+ghost use Rattle.union_builder.specs.Finding.{onlyNames, Searchable};
+ghost use Rattle.union_builder.specs.Writing.{headOf};
+ghost use Rattle.union_builder.specs.Planning.{refusedPlan, foundPlan, planOf};
 
 // A plan that is refused.
-fn refused(n: u8) -> Plan
+pub fn refused(n: u8) -> Plan
     ensures { λ r. ⌜ r ≡ refusedPlan n ⌝ }
 {
     Plan {
@@ -34,9 +32,9 @@ fn refused(n: u8) -> Plan
 }
 
 // Questions 18 to 20, once the name was looked for.
-fn settle(b: UnionBuilder, f: Found, name: &[u8], kind: Kind) -> Plan
-    requires { ⌜ (b .len ≤ 65536) × (length (now name) ≤ 32) × (f .known ≡ true → f .column ≡ column b (f .id)) ⌝ }
-    ensures { λ r. ⌜ r ≡ restOf b (atOf f) (now (name .entry)) kind ⌝ }
+pub fn settle(b: BuilderHead, f: Found, name: &[u8], kind: Kind) -> Plan
+    requires { ⌜ (b .len ≤ 65536) × (length (now name) ≤ 32) ⌝ }
+    ensures { λ r. ⌜ r ≡ foundPlan b f (now (name .entry)) kind ⌝ }
 {
     if f.known {
         let c = f.column;
@@ -63,7 +61,7 @@ fn settle(b: UnionBuilder, f: Found, name: &[u8], kind: Kind) -> Plan
     }
     let layout = b.layout;
     Plan {
-        column: opened_column(name, kind, first_slots(layout, b.len)),
+        column: opened_column(name, kind, if_sparse(layout, b.len)),
         id: b.count,
         count: b.count + 1,
         refusal: 0,
@@ -71,32 +69,30 @@ fn settle(b: UnionBuilder, f: Found, name: &[u8], kind: Kind) -> Plan
     }
 }
 
-// Whether both hold.
-fn both(a: bool, b: bool) -> bool
-    ensures { λ r. ⌜ r ≡ (a && b) ⌝ }
+// A builder but for its columns.
+pub(crate) fn head_of(b: UnionBuilder) -> BuilderHead
+    ensures { λ r. ⌜ r ≡ headOf b ⌝ }
 {
-    if a { b } else { false }
+    let layout = b.layout;
+    BuilderHead {
+        capacity: b.capacity,
+        limit: b.limit,
+        len: b.len,
+        count: b.count,
+        layout: layout,
+    }
 }
 
-// Questions 15 to 20, and where the append goes.
-pub(crate) fn plan(b: UnionBuilder, lent: Amounts, names: &[u8], name: &[u8], kind: Kind) -> Plan
-    requires { ⌜ lent .names ≡ length (now names) ⌝ }
-    ensures { λ r. ⌜ r ≡ planOf b lent (namesOf b (onlyNames (now (names .entry)))) (now (name .entry)) kind ⌝ }
+// Where an append goes. `checked` is the first no of 15 and 16, or 0; 17 to 20 are asked here.
+pub(crate) fn plan(b: UnionBuilder, checked: u8, names: &[u8], name: &[u8], kind: Kind) -> Plan
+    requires { ⌜ (checked ≡ 0 → Searchable b (length (now names))) ⌝ }
+    ensures { λ r. ⌜ r ≡ planOf checked b (namesOf b (onlyNames (now (names .entry)))) (now (name .entry)) kind ⌝ }
 {
-    if !numbers_fit(b.capacity, b.limit, b.len, b.count) {
-        return refused(15);
+    if checked != 0 {
+        return refused(checked);
     }
-    let roomy = lent_fits(b.capacity, b.limit, lent);
-    let named = name_fits(name);
-    let f = look(b, names, name, both(roomy, named));
-    if !f.fits {
-        return refused(15);
-    }
-    if !roomy {
-        return refused(16);
-    }
-    if !named {
+    if !name_fits(name) {
         return refused(17);
     }
-    settle(b, f, name, kind)
+    settle(head_of(b), look(b, names, name), name, kind)
 }

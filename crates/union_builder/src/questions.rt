@@ -84,7 +84,7 @@ pub(crate) fn lent_fits(capacity: usize, limit: usize, lent: Amounts) -> bool
 }
 
 // Questions 15 and 16.
-pub(crate) fn builder_checked(b: UnionBuilder, lent: Amounts) -> u8
+pub fn builder_checked(b: UnionBuilder, lent: Amounts) -> u8
     ensures { λ r. ⌜ r ≡ builderChecked b lent ⌝ }
 {
     if !numbers_fit(b.capacity, b.limit, b.len, b.count) {

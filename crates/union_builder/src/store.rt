@@ -1,11 +1,11 @@
 // What an append writes.
+use crate::BuilderHead;
 use crate::Plan;
-use crate::UnionBuilder;
-use crate::names::put_name;
 use crate::slots::put_nulls;
 use crate::slots::put_row;
 use crate::slots::put_slot;
 use union_array::Layout;
+use union_names::names::put_name;
 ghost use mathlib.Core.Path.{_≡_};
 ghost use mathlib.Core.Bool.{cond};
 ghost use Prim.Native.Nat.{_+_, _*_, _<_, _≤_};
@@ -15,8 +15,8 @@ ghost use lib.Seq.{paste};
 ghost use Rattle.bitmap.specs.Bits.{wordsFor};
 ghost use Rattle.union_array.specs.Types.{byLayout};
 ghost use Rattle.union_array.specs.Buffers.{buffersOf, amountsOf};
-ghost use Rattle.union_builder.specs.Append.{puts, putValue, putBit, buffersAfter};
-ghost use Rattle.union_builder.specs.Writing.{valueOf, Room, placeOf, putsSparse, putsFor, Writable};
+ghost use Rattle.union_builder.specs.Append.{puts, putValue, putBit};
+ghost use Rattle.union_builder.specs.Writing.{valueOf, Room, putsSparse, putsFor, writtenBy, Writable};
 
 // Stores a type id.
 fn put_type_id(type_ids: &mut [i8], at: usize, id: usize)
@@ -107,8 +107,8 @@ fn put_slots(
 }
 
 // Writes what an append of a value or a null adds.
-pub(crate) fn store(
-    b: UnionBuilder,
+pub fn store(
+    b: BuilderHead,
     p: Plan,
     name: &[u8],
     word: u64,
@@ -122,7 +122,7 @@ pub(crate) fn store(
     requires { ⌜ Writable b p (length (now name)) (amountsOf (buffersOf (now «type_ids») (now offsets) (now values) (now masks) (now names))) ⌝ }
     ensures { λ _. ⌜
         buffersOf (now («type_ids» .exit)) (now (offsets .exit)) (now (values .exit)) (now (masks .exit)) (now (names .exit))
-        ≡ buffersAfter b (buffersOf (now («type_ids» .entry)) (now (offsets .entry)) (now (values .entry)) (now (masks .entry)) (now (names .entry))) (placeOf p) (now (name .entry)) (valueOf present word) ⌝ }
+        ≡ writtenBy b p (buffersOf (now («type_ids» .entry)) (now (offsets .entry)) (now (values .entry)) (now (masks .entry)) (now (names .entry))) (now (name .entry)) (valueOf present word) ⌝ }
 {
     let len = b.len;
     let c = p.column;

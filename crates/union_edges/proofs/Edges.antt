@@ -6,11 +6,11 @@ use Rattle.union_array.specs.Types.{lowBits}
 use Rattle.union_array.specs.Slots.{present, nullsIn, slotNull}
 use Rattle.union_array.specs.Questions.{question1, columnIn, question3, question4, question5, question6, question7, question8, asked, checked}
 use Rattle.union_array.specs.Slices.{sliced, sliceChecked, sliceOf}
-use Rattle.logical_nulls.specs.Setting.{question12}
-use Rattle.logical_nulls.specs.Route.{withNulls, fullyNulls, sparseRoute, routeOf}
+use Rattle.null_route.specs.Setting.{question12}
+use Rattle.null_route.specs.Route.{withNulls, fullyNulls, sparseRoute, routeOf}
 use Rattle.logical_nulls.specs.Mask.{maskedBy, logicalNullsOf}
-use Rattle.union_builder.specs.Utf8.{following, utf8}
-use Rattle.union_builder.specs.Names.{question17}
+use Rattle.union_names.specs.Utf8.{following, utf8}
+use Rattle.union_names.specs.Names.{question17}
 use Rattle.union_builder.specs.Builder.{columnFits, question15, question16, builderChecked, madeOf, namesOf}
 use Rattle.union_builder.specs.Append.{appendChecked, builderAfter, buffersAfter, appendWith}
 use Rattle.union_builder.specs.Finish.{assembled, describe, finishClonedOf}

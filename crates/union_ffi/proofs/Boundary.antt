@@ -1,10 +1,11 @@
 -- Appends, null masks and shown parts at the boundary. Assumes nothing.
-use mathlib.Core.Path.{_≡_, refl, ap}
+use mathlib.Core.Path.{_≡_, refl, sym, ap, ap₂}
 use mathlib.Core.Bool.{true, false}
 use mathlib.Core.Option.{Option}
 use mathlib.Core.List.{List, []}
 use lib.ListN.{take, drop}
 use Prim.Native.Nat.{ℕ, zero, suc, _<_, _≤_}
+use native.Mathlib.Omega.{arith}
 use borrow.Author.Tests.{lt-ltb, le-ltb}
 use Rattle.union_array.specs.declared.Kind.{Kind}
 use Rattle.union_array.specs.declared.UnionArray.{UnionArray}
@@ -13,15 +14,16 @@ use Rattle.union_array.specs.Refusal.{ifYes}
 use Rattle.union_array.specs.Questions.{asked}
 use Rattle.union_array.specs.Lookup.{typeIdsOf}
 use Rattle.union_builder.specs.declared.Appended.{Appended}
+use Rattle.union_builder.specs.declared.Finished.{Finished}
 use Rattle.union_builder.specs.declared.UnionBuilder.{UnionBuilder}
 use Rattle.union_builder.specs.Append.{outcome, appendWith}
 use Rattle.union_ffi.specs.Numbers.{kindFrom, badNumber}
 use Rattle.logical_nulls.specs.declared.LogicalNulls.{LogicalNulls}
 use Rattle.logical_nulls.specs.declared.SparseStrategy.{SparseStrategy}
 use Rattle.logical_nulls.specs.Mask.{masked, logicalNullsOf, strategyOf}
-use Rattle.union_ffi.specs.Arrays.{CArray, CPart, arrayFrom, isArray, partOf}
+use Rattle.union_ffi.specs.Arrays.{CArray, CPart, arrayFrom, isArray, arrayTo, partOf}
 use Rattle.union_ffi.specs.Nulls.{CNulls, strategyFrom, isStrategy, nullsTo, cMasked, maskedTo, cLogicalNulls, cStrategy}
-use Rattle.union_ffi.specs.Builders.{CBuilder, builderFrom, builderTo, isBuilder, built, cOutcome, outcomeTo, cAppendWith}
+use Rattle.union_ffi.specs.Builders.{CBuilder, CBuilt, CFinished, builderFrom, builderTo, isBuilder, built, appendedTo, finishedTo, cOutcome, outcomeTo, cAppendWith}
 
 pub part-refused : (a : UnionArray) (n : ℕ) → (n ≡ 0 → ⊥) → _≡_ {A = CPart} (record { start = 0; count = 0; refusal = n }) (partOf a n)
 part-refused a zero h = absurd (h refl)
@@ -37,6 +39,23 @@ part-shown a m = by (asked a (amountsOf m))
     by zero = refl
     by (suc n) = refl
 
+-- an answer with a refusal, and one without
+pub answer-refused : {A : Type 0} (n : ℕ) (x y : A) → (n ≡ 0 → ⊥) → y ≡ ifYes n x y
+answer-refused zero x y h = absurd (h refl)
+answer-refused (suc n) x y h = refl
+
+pub answer-accepted : {A : Type 0} (n : ℕ) (w x y : A) → n ≡ 0 → w ≡ x → w ≡ ifYes n x y
+answer-accepted zero w x y h e = e
+answer-accepted (suc n) w x y h e = absurd (omega arith)
+
+module _ (c : CBuilder) (f : Finished) where
+  pub finish-refused : (a : CArray) → (f .refusal ≡ 0 → ⊥) → a ≡ arrayTo (f .array) → _≡_ {A = CFinished} (record { builder = c; array = a; refusal = f .refusal }) (finishedTo c f)
+  finish-refused a h e = rw e (ap (λ (b : CBuilder). record { builder = b; array = arrayTo (f .array); refusal = f .refusal }) (answer-refused (f .refusal) _ c h))
+
+  pub finish-accepted : (b : CBuilder) (a : CArray) → f .refusal ≡ 0 → b ≡ builderTo (f .builder) → a ≡ arrayTo (f .array) → _≡_ {A = CFinished} (record { builder = b; array = a; refusal = 0 }) (finishedTo c f)
+  finish-accepted b a h g e =
+      rw e (ap₂ (λ (b : CBuilder) (n : ℕ). record { builder = b; array = arrayTo (f .array); refusal = n }) (answer-accepted (f .refusal) b _ c h g) (sym h))
+
 module _ (b : CBuilder) (m : Buffers) (name : List ℕ) (kind : ℕ) (v : Option ℕ) where
   pub append-bad : isBuilder b ≡ false → cOutcome (built b badNumber) m ≡ cAppendWith b m name kind v
   unfolding cAppendWith
@@ -47,10 +66,10 @@ module _ (b : CBuilder) (m : Buffers) (name : List ℕ) (kind : ℕ) (v : Option
   append-kind e h = rw (e, le-ltb kind 10 h)
 
   pub append-good : isBuilder b ≡ true → kind < 10 → (u : UnionBuilder) → u ≡ builderFrom b → (k : Kind) → k ≡ kindFrom kind → (r : Appended) (after : Buffers)
-      → outcome r after ≡ appendWith u m name k v → (w : CBuilder) → w ≡ builderTo (r .builder) → cOutcome (built w (r .refusal)) after ≡ cAppendWith b m name kind v
+      → outcome r after ≡ appendWith u m name k v → (w : CBuilt) → w ≡ appendedTo b r → cOutcome w after ≡ cAppendWith b m name kind v
   unfolding cAppendWith
   append-good e h u eu k ek r after o w ew =
-      rw (e, lt-ltb kind 10 h, ew) (ap outcomeTo (rw (eu, ek) at o))
+      rw (e, lt-ltb kind 10 h, ew) (ap (outcomeTo b) (rw (eu, ek) at o))
 
 module _ (a : CArray) (m : Buffers) (s : ℕ) (out : List ℕ) where
   pub strategy-bad : isArray a ≡ false → cMasked (record { nulls = 0; refusal = badNumber; route = 0; present = 0 }) out ≡ cStrategy a m s out

@@ -1,48 +1,78 @@
--- An array read or written an element at a time: a function mapped over it, and a test of each of its first elements.
+-- An array read or written an element at a time: its first entries by a function, and a test of each of them.
 -- Assumes nothing.
-use mathlib.Core.Path.{_≡_, refl, ap, ap₂, _∙_, subst}
-use mathlib.Core.Bool.{Bool, true, false, _&&_}
-use mathlib.Core.List.{List, [], _∷_, _++_, map, append-nil}
-use Prim.Native.Nat.{ℕ, zero, suc, _+_, _<_, suc-le-suc}
+use mathlib.Core.Path.{_≡_, refl, sym, ap, ap₂, _∙_}
+use mathlib.Core.Bool.{Bool, true, false, cond, _&&_}
+use mathlib.Core.List.{List, [], _∷_}
+use Prim.Native.Nat.{ℕ, zero, suc, _+_, _≤_, _<_, suc-le-suc}
 use native.Mathlib.Nat.{not-suc-le-zero, le-of-suc-le-suc, zero-lt-suc}
-use lib.ListN.{length, getD, take, drop, set}
+use native.Mathlib.Numerals.{add-one}
+use native.Mathlib.Omega.{arith}
+use borrow.Author.Tests.{lt-ltb, le-ltb}
+use lib.ListN.{length, getD, take, set, replicate}
 use lib.IntN.{pos}
-use lib.Seq.{drop-length}
-use Rattle.bitmap.specs.Lists.{table, retable, every}
-use Rattle.bitmap.proofs.Tables.{every-at, every-more, retable-store}
-use Rattle.union_ffi.specs.Numbers.{each}
-use Rattle.union_ffi.specs.Arrays.{CColumn, CNamePlace}
+use Rattle.bitmap.specs.Lists.{every}
+use Rattle.bitmap.proofs.Tables.{three, every-at, every-more}
+use Rattle.union_array.specs.declared.Column.{Column}
+use Rattle.union_array.specs.declared.Layout.{Layout}
+use Rattle.union_array.specs.declared.UnionArray.{UnionArray}
+use Rattle.union_array.specs.Types.{noColumn}
+use Rattle.union_ffi.specs.Numbers.{layoutFrom, layoutNumber, each, inUse, firstBy}
+use Rattle.union_ffi.specs.Arrays.{CColumn, CArray, CNamePlace, columnFrom, arrayFrom, columnTo, arrayTo}
 use Rattle.union_ffi.specs.Builders.{CBuilderColumn}
 
-module _ {A B : Type 0} where
-  table-map : (f : A → B) (xs : List A) (d : A) → table (length xs) (λ k. f (getD xs k d)) ≡ map f xs
-  table-map f [] d = refl
-  table-map f (x ∷ xs) d = ap (λ (l : List B). f x ∷ l) (table-map f xs d)
+module _ {A B : Type 0} (f : A → B) where
+  pub first-length : (n : ℕ) (xs : List A) (rest : List B) → length (firstBy n f xs rest) ≡ length rest
+  unfolding firstBy
+  first-length zero xs rest = refl
+  first-length (suc n) [] rest = refl
+  first-length (suc n) (x ∷ xs) [] = refl
+  first-length (suc n) (x ∷ xs) (y ∷ rest) = ap suc (first-length n xs rest)
 
-  -- the array so far: the first k elements are mapped
-  abbrev pub mappedTo : (A → B) → A → List A → List B → ℕ → List B
-  mappedTo f d xs old k = retable k (λ j. f (getD xs j d)) old
+  pub first-none : (xs : List A) (rest : List B) → rest ≡ firstBy 0 f xs rest
+  unfolding firstBy
+  first-none xs rest = refl
 
-  pub mapped-none : (f : A → B) (d : A) (xs : List A) (old : List B) → old ≡ mappedTo f d xs old 0
-  unfolding retable
-  mapped-none f d xs old = refl
+  stored : (d : A) (k : ℕ) (xs : List A) (rest : List B)
+      → k < length xs → k < length rest → set (firstBy k f xs rest) k (f (getD xs k d)) ≡ firstBy (suc k) f xs rest
+  unfolding firstBy
+  stored d k [] rest h l = absurd (not-suc-le-zero h)
+  stored d k (x ∷ xs) [] h l = absurd (not-suc-le-zero l)
+  stored d zero (x ∷ xs) (y ∷ rest) h l = refl
+  stored d (suc k) (x ∷ xs) (y ∷ rest) h l = ap (λ (r : List B). f x ∷ r) (stored d k xs rest (le-of-suc-le-suc h) (le-of-suc-le-suc l))
 
-  -- one more turn
-  pub mapped-turn : (f : A → B) (d : A) (xs : List A) (old now : List B) (k : ℕ) (v : B)
-      → now ≡ mappedTo f d xs old k → v ≡ f (getD xs k d) → k < length old → set now k v ≡ mappedTo f d xs old (k + 1)
-  mapped-turn f d xs old now k v e w h =
-      ap₂ (λ (l : List B) (x : B). set l k x) e w ∙ retable-store (λ j. f (getD xs j d)) old k h
+  -- one more turn: entry k is stored
+  pub first-turn : (d : A) (xs : List A) (rest now : List B) (k : ℕ) (v : B)
+      → now ≡ firstBy k f xs rest → v ≡ f (getD xs k d) → k < length xs → k < length rest → set now k v ≡ firstBy (k + 1) f xs rest
+  first-turn d xs rest now k v e w h l =
+      ap₂ (λ (r : List B) (x : B). set r k x) e w ∙ stored d k xs rest h l ∙ ap (λ (n : ℕ). firstBy n f xs rest) (sym (add-one k))
 
-  -- all of them
-  pub mapped-all : (f : A → B) (d : A) (xs : List A) (old now : List B) (n : ℕ)
-      → length xs ≡ n → length old ≡ n → now ≡ mappedTo f d xs old n → now ≡ map f xs
-  unfolding retable
-  mapped-all f d xs old now n x o e =
-      e
-      ∙ ap₂ (λ (l r : List B). l ++ r)
-      (subst (λ (m : ℕ). table m (λ j. f (getD xs j d)) ≡ map f xs) x (table-map f xs d))
-      (subst (λ (m : ℕ). drop m old ≡ []) o (drop-length old))
-      ∙ append-nil (map f xs)
+  past : (m n : ℕ) (xs : List A) (rest : List B) → length rest ≤ m → m ≤ n → firstBy m f xs rest ≡ firstBy n f xs rest
+  unfolding firstBy
+  past zero zero xs rest h l = refl
+  past zero (suc n) [] rest h l = refl
+  past zero (suc n) (x ∷ xs) [] h l = refl
+  past zero (suc n) (x ∷ xs) (y ∷ rest) h l = absurd (not-suc-le-zero h)
+  past (suc m) zero xs rest h l = absurd (not-suc-le-zero l)
+  past (suc m) (suc n) [] rest h l = refl
+  past (suc m) (suc n) (x ∷ xs) [] h l = refl
+  past (suc m) (suc n) (x ∷ xs) (y ∷ rest) h l = ap (λ (r : List B). f x ∷ r) (past m n xs rest (le-of-suc-le-suc h) (le-of-suc-le-suc l))
+
+  -- of 128 entries, those in use are all that are meant
+  pub first-all : (n : ℕ) (xs : List A) (rest : List B) → length rest ≡ 128 → firstBy (inUse n) f xs rest ≡ firstBy n f xs rest
+  first-all n xs rest e =
+      three n 128 (λ h. ap (λ (t : Bool). firstBy (cond t n 128) f xs rest) (lt-ltb n 128 h)) (λ h. over (omega arith)) (λ h. over (omega arith))
+    where
+      over : 128 ≤ n → firstBy (inUse n) f xs rest ≡ firstBy n f xs rest
+      over h = ap (λ (t : Bool). firstBy (cond t n 128) f xs rest) (le-ltb n 128 h) ∙ past 128 n xs rest (omega arith) h
+
+  -- all turns are done
+  pub first-done : (n k : ℕ) (xs : List A) (rest now : List B)
+      → now ≡ firstBy k f xs rest → k ≡ inUse n → length rest ≡ 128 → now ≡ firstBy n f xs rest
+  first-done n k xs rest now e a l = e ∙ ap (λ (m : ℕ). firstBy m f xs rest) a ∙ first-all n xs rest l
+
+pub in-use-most : (n : ℕ) → inUse n ≤ 128
+in-use-most n =
+    three n 128 (λ h. rw (lt-ltb n 128 h) (omega arith)) (λ h. rw (le-ltb n 128 (omega arith)) (omega arith)) (λ h. rw (le-ltb n 128 (omega arith)) (omega arith))
 
 module _ {A : Type 0} (p : A → Bool) (d : A) where
   -- each of the first n passes, as each index below n does that the list has
@@ -81,3 +111,16 @@ noCBuilderColumn = record { slots = 0; size = 0; kind = 0; masked = 0 }
 
 abbrev pub noCNamePlace : CNamePlace
 noCNamePlace = record { start = 0; size = 0 }
+
+-- what the conversions make, from what their loops and calls told
+module _ (a : CArray) where
+  pub array-from-is : (z : Column) (cs : List Column) (l : Layout) → z ≡ noColumn → cs ≡ firstBy (a .fields) columnFrom (a .columns) (replicate 128 z) → l ≡ layoutFrom (a .layout)
+      → _≡_ {A = UnionArray} (record { columns = cs; fields = a .fields; children = a .children; start = a .start; count = a .count; «offsets_start» = a .«offsets_start»; «offsets_count» = a .«offsets_count»; layout = l }) (arrayFrom a)
+  unfolding arrayFrom
+  array-from-is z cs l ez ec el = rw (ec, ez, el)
+
+module _ (a : UnionArray) where
+  pub array-to-is : (z : CColumn) (n : Column) (cs : List CColumn) (l : ℕ) → z ≡ columnTo n → n ≡ noColumn → cs ≡ firstBy (a .fields) columnTo (a .columns) (replicate 128 z) → l ≡ layoutNumber (a .layout)
+      → _≡_ {A = CArray} (record { columns = cs; fields = a .fields; children = a .children; start = a .start; count = a .count; «offsets_start» = a .«offsets_start»; «offsets_count» = a .«offsets_count»; layout = l }) (arrayTo a)
+  unfolding arrayTo
+  array-to-is z n cs l ez en ec el = rw (ec, ez, en, el)

@@ -11,7 +11,7 @@ use Rattle.union_array.specs.Refusal.{no, _then_, ifYes}
 use Rattle.union_builder.specs.declared.UnionBuilder.{UnionBuilder}
 use Rattle.union_builder.specs.Append.{AppendOutcome, outcome, appendWith}
 use Rattle.union_ffi.specs.Numbers.{kindFrom, isKind, flagFrom, isFlag, badNumber, badLength}
-use Rattle.union_ffi.specs.Builders.{CBuilder, CBuilt, isBuilder, builderFrom, builderTo, built}
+use Rattle.union_ffi.specs.Builders.{CBuilder, CBuilt, isBuilder, builderFrom, builderInto, built}
 
 -- the readings: names in the text, kinds and presence by their numbers, and the values' bits
 pub record Readings : Type 0 where
@@ -71,8 +71,8 @@ pub record CAppends : Type 0 where
 abbrev pub cAppended : CBuilt → Buffers → List ℕ → CAppends
 cAppended answer buffers refusals = record { answer = answer; buffers = buffers; refusals = refusals }
 
-abbrev pub appendsTo : Appends → CAppends
-appendsTo s = cAppended (built (builderTo (s .builder)) 0) (s .buffers) (s .refusals)
+abbrev pub appendsTo : CBuilder → Appends → CAppends
+appendsTo c s = cAppended (built (builderInto c (s .builder)) 0) (s .buffers) (s .refusals)
 
 abbrev pub appendsChecked : CBuilder → Readings → ℕ → ℕ
 appendsChecked b r lent = no badNumber (isBuilder b) then no badLength (lengthsMatch r lent)
@@ -81,4 +81,4 @@ appendsChecked b r lent = no badNumber (isBuilder b) then no badLength (lengthsM
 unfoldable pub cAppends : CBuilder → Buffers → Readings → List ℕ → CAppends
 cAppends b m r refusals =
     let n = appendsChecked b r (length refusals) in
-    ifYes n (appendsTo (times (length (r .starts)) (appendsStep r) (appends (builderFrom b) m refusals))) (cAppended (built b n) m refusals)
+    ifYes n (appendsTo b (times (length (r .starts)) (appendsStep r) (appends (builderFrom b) m refusals))) (cAppended (built b n) m refusals)

@@ -1,6 +1,5 @@
 -- Arrays and their answers as C structs, and each call on an array at the boundary.
 use mathlib.Core.Bool.{Bool, false, _&&_}
-use mathlib.Core.List.{map}
 use Prim.Native.Nat.{ℕ}
 use lib.IntN.{ℤ, pos}
 use lib.ListN.{take, replicate}
@@ -21,7 +20,7 @@ use Rattle.union_array.specs.Refusal.{ifYes}
 use Rattle.union_array.specs.Questions.{asked}
 use Rattle.union_array.specs.Lookup.{tryNewOf, noValue, valueOf, typeIdOf, valueOffsetOf, childOf, noName, typeNamesOf, isDenseOf, isNullableOf}
 use Rattle.union_array.specs.Slices.{sliceOf}
-use Rattle.union_ffi.specs.Numbers.{kindFrom, layoutFrom, layoutNumber, isLayout, flagFrom, isCase, each, atBoundary, badNumber}
+use Rattle.union_ffi.specs.Numbers.{kindFrom, layoutFrom, layoutNumber, isLayout, flagFrom, isCase, each, firstBy, atBoundary, badNumber}
 pub use Rattle.union_ffi.specs.declared.CColumn.{CColumn}
 pub use Rattle.union_ffi.specs.declared.CArray.{CArray}
 pub use Rattle.union_ffi.specs.declared.CValue.{CValue}
@@ -48,9 +47,10 @@ columnFrom c = record {
   masked = flagFrom (c .masked);
 }
 
+-- entries past the columns in use are not read
 unfoldable pub arrayFrom : CArray → UnionArray
 arrayFrom a = record {
-  columns = map columnFrom (a .columns);
+  columns = firstBy (a .fields) columnFrom (a .columns) (replicate 128 noColumn);
   fields = a .fields;
   children = a .children;
   start = a .start;
@@ -78,9 +78,10 @@ columnTo c = record {
   masked = digit (c .masked);
 }
 
+-- entries past the columns in use are zeros
 unfoldable pub arrayTo : UnionArray → CArray
 arrayTo a = record {
-  columns = map columnTo (a .columns);
+  columns = firstBy (a .fields) columnTo (a .columns) (replicate 128 (columnTo noColumn));
   fields = a .fields;
   children = a .children;
   start = a .start;
@@ -117,7 +118,7 @@ abbrev pub nameTo : NamePlace → CNamePlace
 nameTo n = record { start = n .start; size = n .size }
 
 unfoldable pub typeNamesTo : TypeNames → CTypeNames
-typeNamesTo t = record { names = map nameTo (t .names); count = t .count; refusal = t .refusal }
+typeNamesTo t = record { names = firstBy (t .count) nameTo (t .names) (replicate 128 (nameTo noName)); count = t .count; refusal = t .refusal }
 
 abbrev pub sliceTo : Slice → CSlice
 sliceTo s = record { array = arrayTo (s .array); refusal = s .refusal }

@@ -1,22 +1,24 @@
 -- Builders and their answers as C structs, and each call on a builder at the boundary.
 use mathlib.Core.Bool.{Bool, _&&_}
 use mathlib.Core.Option.{Option}
-use mathlib.Core.List.{List, map}
+use mathlib.Core.List.{List}
 use Prim.Native.Nat.{ℕ}
-use lib.ListN.{take}
+use lib.ListN.{take, replicate}
 use Rattle.bitmap.specs.Bits.{digit}
 use Rattle.union_array.specs.declared.Layout.{Layout}
 use Rattle.union_array.specs.Types.{kindNumber, noArray}
 use Rattle.union_array.specs.Buffers.{Buffers}
+use Rattle.union_array.specs.Refusal.{ifYes}
 use Rattle.union_builder.specs.declared.BuilderColumn.{BuilderColumn}
 use Rattle.union_builder.specs.declared.UnionBuilder.{UnionBuilder}
 use Rattle.union_builder.specs.declared.Made.{Made}
+use Rattle.union_builder.specs.declared.Appended.{Appended}
 use Rattle.union_builder.specs.declared.Length.{Length}
 use Rattle.union_builder.specs.declared.Finished.{Finished}
-use Rattle.union_builder.specs.Builder.{madeOf}
+use Rattle.union_builder.specs.Builder.{noBuilderColumn, madeOf}
 use Rattle.union_builder.specs.Append.{AppendOutcome, appendWith}
 use Rattle.union_builder.specs.Finish.{lenOf, finishClonedOf, finishOf}
-use Rattle.union_ffi.specs.Numbers.{kindFrom, isKind, layoutFrom, layoutNumber, isLayout, flagFrom, isCase, each, atBoundary, badNumber}
+use Rattle.union_ffi.specs.Numbers.{kindFrom, isKind, layoutFrom, layoutNumber, isLayout, flagFrom, isCase, each, firstBy, atBoundary, badNumber}
 use Rattle.union_ffi.specs.Arrays.{arrayTo}
 pub use Rattle.union_ffi.specs.declared.CBuilderColumn.{CBuilderColumn}
 pub use Rattle.union_ffi.specs.declared.CBuilder.{CBuilder}
@@ -28,9 +30,10 @@ pub use Rattle.union_ffi.specs.declared.CFinished.{CFinished}
 abbrev pub builderColumnFrom : CBuilderColumn → BuilderColumn
 builderColumnFrom c = record { slots = c .slots; size = c .size; kind = kindFrom (c .kind); masked = flagFrom (c .masked) }
 
+-- entries past the columns in use are not read
 unfoldable pub builderFrom : CBuilder → UnionBuilder
 builderFrom b = record {
-  columns = map builderColumnFrom (b .columns);
+  columns = firstBy (b .count) builderColumnFrom (b .columns) (replicate 128 noBuilderColumn);
   capacity = b .capacity;
   limit = b .limit;
   len = b .len;
@@ -46,9 +49,10 @@ isBuilder b = isLayout (b .layout) && each (λ c. isCase (c .kind) (c .masked)) 
 abbrev pub builderColumnTo : BuilderColumn → CBuilderColumn
 builderColumnTo c = record { slots = c .slots; size = c .size; kind = kindNumber (c .kind); masked = digit (c .masked) }
 
-unfoldable pub builderTo : UnionBuilder → CBuilder
-builderTo b = record {
-  columns = map builderColumnTo (b .columns);
+-- to a caller who keeps c: entries past the columns in use stay as they are
+unfoldable pub builderInto : CBuilder → UnionBuilder → CBuilder
+builderInto c b = record {
+  columns = firstBy (b .count) builderColumnTo (b .columns) (c .columns);
   capacity = b .capacity;
   limit = b .limit;
   len = b .len;
@@ -56,17 +60,33 @@ builderTo b = record {
   layout = layoutNumber (b .layout);
 }
 
+abbrev pub noCBuilder : CBuilder
+noCBuilder = record { columns = replicate 128 (builderColumnTo noBuilderColumn); capacity = 0; limit = 0; len = 0; count = 0; layout = 0 }
+
+-- to a caller who kept none: entries past the columns in use are zeros
+abbrev pub builderTo : UnionBuilder → CBuilder
+builderTo b = builderInto noCBuilder b
+
 abbrev pub built : CBuilder → ℕ → CBuilt
 built b n = record { builder = b; refusal = n }
 
 abbrev pub madeTo : Made → CBuilt
 madeTo r = built (builderTo (r .builder)) (r .refusal)
 
-abbrev pub lengthTo : Length → CLength
-lengthTo l = record { builder = builderTo (l .builder); len = l .len; refusal = 0 }
+-- an append's; refused, the builder is handed back as it came
+abbrev pub appendedTo : CBuilder → Appended → CBuilt
+appendedTo c r = built (ifYes (r .refusal) (builderInto c (r .builder)) c) (r .refusal)
 
-abbrev pub finishedTo : Finished → CFinished
-finishedTo f = record { builder = builderTo (f .builder); array = arrayTo (f .array); refusal = f .refusal }
+-- the builder is handed back as it came
+abbrev pub lengthTo : CBuilder → Length → CLength
+lengthTo c l = record { builder = c; len = l .len; refusal = 0 }
+
+abbrev pub clonedTo : CBuilder → Finished → CFinished
+clonedTo c f = record { builder = c; array = arrayTo (f .array); refusal = f .refusal }
+
+-- an empty builder, or, refused, the builder as it came
+abbrev pub finishedTo : CBuilder → Finished → CFinished
+finishedTo c f = record { builder = ifYes (f .refusal) (builderTo (f .builder)) c; array = arrayTo (f .array); refusal = f .refusal }
 
 -- the answer of an append, and lent memory at exit
 pub record COutcome : Type 0 where
@@ -76,8 +96,8 @@ pub record COutcome : Type 0 where
 abbrev pub cOutcome : CBuilt → Buffers → COutcome
 cOutcome answer buffers = record { answer = answer; buffers = buffers }
 
-abbrev pub outcomeTo : AppendOutcome → COutcome
-outcomeTo r = cOutcome (built (builderTo (r .answer .builder)) (r .answer .refusal)) (r .buffers)
+abbrev pub outcomeTo : CBuilder → AppendOutcome → COutcome
+outcomeTo c r = cOutcome (appendedTo c (r .answer)) (r .buffers)
 
 -- ---- the calls: a number that names no case hands the builder back as it came
 abbrev pub cMade : Layout → ℕ → ℕ → Buffers → CBuilt
@@ -86,16 +106,16 @@ cMade l c k m = madeTo (madeOf l c k m)
 -- an append of a value, or of none
 unfoldable pub cAppendWith : CBuilder → Buffers → List ℕ → ℕ → Option ℕ → COutcome
 cAppendWith b m name kind v =
-    atBoundary (isBuilder b && isKind kind) (outcomeTo (appendWith (builderFrom b) m name (kindFrom kind) v)) (cOutcome (built b badNumber) m)
+    atBoundary (isBuilder b && isKind kind) (outcomeTo b (appendWith (builderFrom b) m name (kindFrom kind) v)) (cOutcome (built b badNumber) m)
 
 unfoldable pub cLen : CBuilder → CLength
-cLen b = atBoundary (isBuilder b) (lengthTo (lenOf (builderFrom b))) (record { builder = b; len = 0; refusal = badNumber })
+cLen b = atBoundary (isBuilder b) (lengthTo b (lenOf (builderFrom b))) (record { builder = b; len = 0; refusal = badNumber })
 
 abbrev pub notFinished : CBuilder → CFinished
 notFinished b = record { builder = b; array = arrayTo noArray; refusal = badNumber }
 
 unfoldable pub cFinishCloned : CBuilder → Buffers → CFinished
-cFinishCloned b m = atBoundary (isBuilder b) (finishedTo (finishClonedOf (builderFrom b) m)) (notFinished b)
+cFinishCloned b m = atBoundary (isBuilder b) (clonedTo b (finishClonedOf (builderFrom b) m)) (notFinished b)
 
 unfoldable pub cFinish : CBuilder → Buffers → CFinished
-cFinish b m = atBoundary (isBuilder b) (finishedTo (finishOf (builderFrom b) m)) (notFinished b)
+cFinish b m = atBoundary (isBuilder b) (finishedTo b (finishOf (builderFrom b) m)) (notFinished b)

@@ -1,7 +1,7 @@
 -- Enums and flags as numbers. A number that names no case is refused by 128 before the call asks its first question.
 use mathlib.Core.Bool.{Bool, true, cond, _&&_}
 use mathlib.Core.List.{List, [], _∷_}
-use Prim.Native.Nat.{ℕ}
+use Prim.Native.Nat.{ℕ, zero, suc}
 use lib.Dec.{eqb, ltb}
 use Rattle.union_array.specs.declared.Kind.{Kind}
 use Rattle.union_array.specs.declared.Kind.the-variants.{Int8, Int16, Int32, Int64, UInt8, UInt16, UInt32, UInt64, Float32, Float64}
@@ -53,3 +53,14 @@ atBoundary ok answer refused = cond ok answer refused
 abbrev pub each : {A : Type 0} → (A → Bool) → List A → Bool
 each p [] = true
 each p (x ∷ xs) = p x && each p xs
+
+-- how many of 128 entries are in use
+abbrev pub inUse : ℕ → ℕ
+inUse n = cond (ltb n 128) n 128
+
+-- the first n entries are those of xs by f, the later ones those of rest
+unfoldable pub firstBy : {A B : Type 0} → ℕ → (A → B) → List A → List B → List B
+firstBy zero f xs rest = rest
+firstBy (suc n) f [] rest = rest
+firstBy (suc n) f (x ∷ xs) [] = []
+firstBy (suc n) f (x ∷ xs) (y ∷ rest) = f x ∷ firstBy n f xs rest

@@ -3,13 +3,14 @@ ghost use mathlib.Core.Path.{_≡_};
 ghost use mathlib.Core.Option.{none, some};
 ghost use Rattle.union_array.specs.declared.Layout.the-variants.{Sparse, Dense};
 ghost use Rattle.union_array.specs.Buffers.{buffersOf};
-ghost use Rattle.union_ffi.specs.Builders.{madeTo, finishedTo, cOutcome, cMade, cAppendWith, cLen, notFinished, cFinishCloned, cFinish};
+ghost use Rattle.union_ffi.specs.Builders.{madeTo, appendedTo, finishedTo, cOutcome, cMade, cAppendWith, cLen, notFinished, cFinishCloned, cFinish};
 use crate::CBuilder;
 use crate::CBuilt;
 use crate::CFinished;
 use crate::CLength;
 use crate::convert;
 use union_array::slices;
+use union_builder::Appended;
 use union_builder::Finished;
 use union_builder::Made;
 use union_builder::UnionBuilder;
@@ -103,6 +104,23 @@ pub extern "C" fn union_builder_new_sparse(
     made_to(UnionBuilder::new_sparse(limit, type_ids, offsets, values, masks, names))
 }
 
+// What an append answers to a caller who keeps `c`.
+fn appended_to(c: CBuilder, r: Appended) -> CBuilt
+    ensures { λ w. ⌜ w ≡ appendedTo c r ⌝ }
+{
+    if r.refusal != 0 {
+        return CBuilt {
+            builder: c,
+            refusal: r.refusal,
+        };
+    }
+    let after = r.builder;
+    CBuilt {
+        builder: convert::builder_into(c, after),
+        refusal: 0,
+    }
+}
+
 // Appends a value to the column with the name.
 #[no_mangle]
 pub extern "C" fn union_builder_append(
@@ -135,11 +153,7 @@ pub extern "C" fn union_builder_append(
     let b = convert::builder_from(builder);
     let k = convert::kind_from(kind);
     let r = b.append(name, k, bits, type_ids, offsets, values, masks, names);
-    let after = r.builder;
-    CBuilt {
-        builder: convert::builder_to(after),
-        refusal: r.refusal,
-    }
+    appended_to(builder, r)
 }
 
 // Appends a null to the column with the name.
@@ -173,11 +187,7 @@ pub extern "C" fn union_builder_append_null(
     let b = convert::builder_from(builder);
     let k = convert::kind_from(kind);
     let r = b.append_null(name, k, type_ids, offsets, values, masks, names);
-    let after = r.builder;
-    CBuilt {
-        builder: convert::builder_to(after),
-        refusal: r.refusal,
-    }
+    appended_to(builder, r)
 }
 
 // How many slots there are.
@@ -192,26 +202,30 @@ pub extern "C" fn union_builder_len(builder: CBuilder) -> CLength
             refusal: 128,
         };
     }
-    let b = convert::builder_from(builder);
-    let l = b.len();
-    let after = l.builder;
     CLength {
-        builder: convert::builder_to(after),
-        len: l.len,
+        builder: builder,
+        len: builder.len,
         refusal: 0,
     }
 }
 
-// What a finish answers, for C.
-fn finished_to(f: Finished) -> CFinished
-    ensures { λ r. ⌜ r ≡ finishedTo f ⌝ }
+// What a finish that empties the builder answers to a caller who keeps `c`.
+fn finished_to(c: CBuilder, f: Finished) -> CFinished
+    ensures { λ r. ⌜ r ≡ finishedTo c f ⌝ }
 {
-    let b = f.builder;
     let a = f.array;
+    if f.refusal != 0 {
+        return CFinished {
+            builder: c,
+            array: convert::array_to(a),
+            refusal: f.refusal,
+        };
+    }
+    let b = f.builder;
     CFinished {
         builder: convert::builder_to(b),
         array: convert::array_to(a),
-        refusal: f.refusal,
+        refusal: 0,
     }
 }
 
@@ -242,7 +256,13 @@ pub extern "C" fn union_builder_finish_cloned(
         return not_finished(builder);
     }
     let b = convert::builder_from(builder);
-    finished_to(b.finish_cloned(type_ids, offsets, values, masks, names))
+    let f = b.finish_cloned(type_ids, offsets, values, masks, names);
+    let a = f.array;
+    CFinished {
+        builder: builder,
+        array: convert::array_to(a),
+        refusal: f.refusal,
+    }
 }
 
 // Describes the array so far, and hands back an empty builder.
@@ -261,5 +281,5 @@ pub extern "C" fn union_builder_finish(
         return not_finished(builder);
     }
     let b = convert::builder_from(builder);
-    finished_to(b.finish(type_ids, offsets, values, masks, names))
+    finished_to(builder, b.finish(type_ids, offsets, values, masks, names))
 }

@@ -2,9 +2,9 @@
 ghost use mathlib.Core.Path.{_≡_};
 ghost use Rattle.bitmap.specs.Bits.{digit};
 ghost use Rattle.union_array.specs.Types.{kindNumber};
-ghost use Rattle.union_ffi.specs.Numbers.{kindFrom, layoutFrom, layoutNumber, isCase};
+ghost use Rattle.union_ffi.specs.Numbers.{kindFrom, layoutFrom, layoutNumber, isCase, inUse};
 ghost use Rattle.union_ffi.specs.Arrays.{columnFrom, arrayFrom, isArray, columnTo, arrayTo, valueTo, flagTo, typeNamesTo};
-ghost use Rattle.union_ffi.specs.Builders.{builderColumnFrom, builderFrom, isBuilder, builderColumnTo, builderTo};
+ghost use Rattle.union_ffi.specs.Builders.{builderColumnFrom, builderFrom, isBuilder, builderColumnTo, builderTo, builderInto};
 use crate::CArray;
 use crate::CBuilder;
 use crate::CBuilderColumn;
@@ -99,6 +99,16 @@ fn is_case(kind: u8, masked: u8) -> bool
     false
 }
 
+// How many of 128 entries are in use.
+fn in_use(n: usize) -> usize
+    ensures { λ r. ⌜ r ≡ inUse n ⌝ }
+{
+    if n < 128 {
+        return n;
+    }
+    128
+}
+
 fn column_from(c: CColumn) -> Column
     ensures { λ r. ⌜ r ≡ columnFrom c ⌝ }
 {
@@ -153,17 +163,16 @@ pub fn is_array(a: CArray) -> bool
     true
 }
 
-// An array as a caller describes it.
+// An array as a caller describes it. Only the columns in use are read.
 pub fn array_from(a: CArray) -> UnionArray
     ensures { λ r. ⌜ r ≡ arrayFrom a ⌝ }
 {
     let zeros = union_array::questions::no_column();
     let mut columns = [zeros; 128];
-    let mut k: usize = 0;
-    while k < 128 {
+    let n = in_use(a.fields);
+    for k in 0..n {
         let c = a.columns[k];
         columns[k] = column_from(c);
-        k += 1;
     }
     UnionArray {
         columns: columns,
@@ -183,11 +192,10 @@ pub fn array_to(a: UnionArray) -> CArray
 {
     let zeros = column_to(union_array::questions::no_column());
     let mut columns = [zeros; 128];
-    let mut k: usize = 0;
-    while k < 128 {
+    let n = in_use(a.fields);
+    for k in 0..n {
         let c = a.columns[k];
         columns[k] = column_to(c);
-        k += 1;
     }
     let layout = a.layout;
     CArray {
@@ -231,14 +239,13 @@ pub fn type_names_to(t: TypeNames) -> CTypeNames
     ensures { λ r. ⌜ r ≡ typeNamesTo t ⌝ }
 {
     let mut names = [CNamePlace { start: 0, size: 0 }; 128];
-    let mut k: usize = 0;
-    while k < 128 {
+    let count = in_use(t.count);
+    for k in 0..count {
         let n = t.names[k];
         names[k] = CNamePlace {
             start: n.start,
             size: n.size,
         };
-        k += 1;
     }
     CTypeNames {
         names: names,
@@ -291,7 +298,7 @@ pub fn is_builder(b: CBuilder) -> bool
     true
 }
 
-// A builder as a caller keeps it.
+// A builder as a caller keeps it. Only the columns in use are read.
 pub fn builder_from(b: CBuilder) -> UnionBuilder
     ensures { λ r. ⌜ r ≡ builderFrom b ⌝ }
 {
@@ -302,11 +309,10 @@ pub fn builder_from(b: CBuilder) -> UnionBuilder
         masked: false,
     };
     let mut columns = [zeros; 128];
-    let mut k: usize = 0;
-    while k < 128 {
+    let n = in_use(b.count);
+    for k in 0..n {
         let c = b.columns[k];
         columns[k] = builder_column_from(c);
-        k += 1;
     }
     UnionBuilder {
         columns: columns,
@@ -318,21 +324,15 @@ pub fn builder_from(b: CBuilder) -> UnionBuilder
     }
 }
 
-// A builder as it is handed to a caller.
-pub fn builder_to(b: UnionBuilder) -> CBuilder
-    ensures { λ r. ⌜ r ≡ builderTo b ⌝ }
+// A builder as it is handed to a caller who keeps `c`: entries past the columns in use stay as they are.
+pub fn builder_into(c: CBuilder, b: UnionBuilder) -> CBuilder
+    ensures { λ r. ⌜ r ≡ builderInto c b ⌝ }
 {
-    let mut columns = [CBuilderColumn {
-        slots: 0,
-        size: 0,
-        kind: 0,
-        masked: 0,
-    }; 128];
-    let mut k: usize = 0;
-    while k < 128 {
-        let c = b.columns[k];
-        columns[k] = builder_column_to(c);
-        k += 1;
+    let mut columns = c.columns;
+    let n = in_use(b.count);
+    for k in 0..n {
+        let e = b.columns[k];
+        columns[k] = builder_column_to(e);
     }
     let layout = b.layout;
     CBuilder {
@@ -343,4 +343,24 @@ pub fn builder_to(b: UnionBuilder) -> CBuilder
         count: b.count,
         layout: layout_to(layout),
     }
+}
+
+// A builder as it is handed to a caller who kept none.
+pub fn builder_to(b: UnionBuilder) -> CBuilder
+    ensures { λ r. ⌜ r ≡ builderTo b ⌝ }
+{
+    let zeros = CBuilder {
+        columns: [CBuilderColumn {
+            slots: 0,
+            size: 0,
+            kind: 0,
+            masked: 0,
+        }; 128],
+        capacity: 0,
+        limit: 0,
+        len: 0,
+        count: 0,
+        layout: 0,
+    };
+    builder_into(zeros, b)
 }

@@ -25,10 +25,10 @@ use Rattle.union_array.specs.declared.Layout.{Layout}
 use Rattle.union_array.specs.declared.Layout.the-variants.{Dense, Sparse}
 use Rattle.union_array.specs.declared.UnionArray.{UnionArray}
 use Rattle.union_array.specs.declared.Value.{Value}
+use Rattle.null_route.specs.Route.{cheaper, fullyNulls, hasNull, howMany, routeOf, sparseRoute, withNulls}
+use Rattle.null_route.specs.Setting.{question12}
+use Rattle.null_route.specs.declared.Choice.{Choice}
 use Rattle.logical_nulls.specs.Mask.{logicalNullsOf, masked, maskedBy, question14, strategyOf, strategyRoute}
-use Rattle.logical_nulls.specs.Route.{cheaper, fullyNulls, hasNull, howMany, routeOf, sparseRoute, withNulls}
-use Rattle.logical_nulls.specs.Setting.{question12}
-use Rattle.logical_nulls.specs.declared.Choice.{Choice}
 use Rattle.logical_nulls.specs.declared.SparseStrategy.{SparseStrategy}
 use Rattle.logical_nulls.specs.declared.SparseStrategy.the-variants.{Gather, SkipFullyNull, SkipOne, SkipWithoutNulls}
 use Rattle.union_history.specs.Claim.{Marks}

@@ -23,8 +23,8 @@ use Rattle.union_array.specs.Buffers.{Buffers, amountsOf}
 use Rattle.union_array.specs.Refusal.{ifYes}
 use Rattle.union_array.specs.Lookup.{tryNewOf, valueOf, typeIdOf, valueOffsetOf, padded}
 use Rattle.union_array.specs.Slices.{sliceOf}
+use Rattle.null_route.specs.Setting.{question12}
 use Rattle.logical_nulls.specs.declared.SparseStrategy.{SparseStrategy}
-use Rattle.logical_nulls.specs.Setting.{question12}
 use Rattle.logical_nulls.specs.Mask.{Masked, question14, logicalNullsOf, strategyOf}
 use Rattle.union_builder.specs.declared.UnionBuilder.{UnionBuilder}
 use Rattle.union_builder.specs.declared.Finished.{Finished}

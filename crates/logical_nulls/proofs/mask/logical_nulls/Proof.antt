@@ -3,7 +3,7 @@ use Prim.Native.Nat.{ℕ}
 use native.Mathlib.Omega.{arith}
 use lib.ListN.{length, length-map}
 use Rattle.union_array.specs.Buffers.{Buffers, buffersOf, onlyMasks}
-use Rattle.logical_nulls.specs.Route.{routeOf}
+use Rattle.null_route.specs.Route.{routeOf}
 use Rattle.logical_nulls.specs.Mask.{maskedBy}
 use Rattle.logical_nulls.proofs.Calls.{setting-refused, setting-taken, too-few, enough, mask-unchecked, mask-12, mask-13, mask-taken, mask-absent, masked-same, route-is, full-le, fields-ok, counted-ok, mask-ready}
 use borrow.Author.Needs.{needs}

@@ -7,9 +7,10 @@ use Prim.Native.Nat.{ℕ, _-_, _≤_, _<_}
 use native.Mathlib.Omega.{arith}
 use lib.ListN.{length, getD, take, set, length-map}
 use lib.IntN.{ℤ, natAbs}
-use Rattle.logical_nulls.specs.Fields.{Field, noField}
+use Rattle.null_route.specs.declared.Field.{Field}
+use Rattle.null_route.specs.Fields.{noField}
 use Rattle.logical_nulls.specs.Table.{tableOf}
-use Rattle.logical_nulls.proofs.Casts.{id-is, id-at, id-casts}
+use Rattle.bitmap.proofs.Ids.{id-is, id-at, id-casts}
 use Rattle.logical_nulls.proofs.Entries.{table-none, table-yes, table-no}
 use Rattle.logical_nulls.proofs.table.fill.Statement.{statement}
 use Rattle.logical_nulls.proofs.table.fill.Tie as tie

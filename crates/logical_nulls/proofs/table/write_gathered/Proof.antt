@@ -18,10 +18,10 @@ use Rattle.bitmap.proofs.OneBit.{none-yet, or-here, not-here}
 use Rattle.bitmap.proofs.Tables.{retable-none, retable-store, retable-length}
 use Rattle.union_array.specs.declared.Column.{Column}
 use Rattle.union_array.specs.Questions.{maskIn}
-use Rattle.logical_nulls.specs.Fields.{noField, asColumn}
+use Rattle.null_route.specs.Fields.{noField, asColumn}
 use Rattle.logical_nulls.specs.Steps.{wordOf}
 use Rattle.logical_nulls.specs.Table.{childSlot, gatheredAt}
-use Rattle.logical_nulls.proofs.Casts.{id-is, id-at, id-casts}
+use Rattle.bitmap.proofs.Ids.{id-is, id-at, id-casts}
 use Rattle.logical_nulls.proofs.Entries.{lookedUp, looked-up, gathered}
 use Rattle.logical_nulls.proofs.Writing.{word-starts, words-done}
 use Rattle.logical_nulls.proofs.table.write_gathered.Statement.{statement}

@@ -1,7 +1,6 @@
-use mathlib.Core.Path.{_∙_}
-use Rattle.logical_nulls.specs.Fields.{inList}
-use Rattle.logical_nulls.proofs.Writing.{step-4, step-5, step-6}
 use borrow.Author.Needs.{needs}
+use borrow.Author.Tests.{eq-eqb, ne-eqb}
+use Rattle.logical_nulls.specs.Steps.{stepWord}
 use Rattle.logical_nulls.proofs.words.step.Statement.{statement}
 use Rattle.logical_nulls.proofs.words.step.Tie as tie
 
@@ -9,19 +8,24 @@ skip-without-nulls-requires : tie.Need-skip-without-nulls-requires
 skip-without-nulls-requires c κs = search needs
 
 returns : tie.Need-returns
-returns c = let a = c .before .before .before .args in c .skip-without-nulls .ensures ∙ step-5 (a .route) (inList (a .fs)) (a .masks .now) (a .ids .now) (a .start) (a .len) (a .k) (c .before .if1 .taken)
+unfolding stepWord
+returns c = rw (eq-eqb (c .before .before .args .route) 5 (c .before .if1 .taken)) (c .skip-without-nulls .ensures)
 
 skip-fully-null-requires : tie.Need-skip-fully-null-requires
 skip-fully-null-requires c κs = search needs
 
 returns-2 : tie.Need-returns-2
-returns-2 c = let a = c .before .before .before .before .args in c .skip-fully-null .ensures ∙ step-6 (a .route) (inList (a .fs)) (a .masks .now) (a .ids .now) (a .start) (a .len) (a .k) (c .before .before .if1 .left) (c .before .if2 .taken)
+unfolding stepWord
+returns-2 c = let r = c .before .before .before .args .route in rw (ne-eqb r 5 (c .before .before .if1 .left), eq-eqb r 6 (c .before .if2 .taken)) (c .skip-fully-null .ensures)
 
 skip-one-requires : tie.Need-skip-one-requires
-skip-one-requires c κs = search needs
+skip-one-requires c κs =
+    let st = c .before .before in
+    (st .pre .0, st .pre .1 (rw (ne-eqb (st .args .route) 5 (c .before .if1 .left), ne-eqb (st .args .route) 6 (c .if2 .left))))
 
 returns-3 : tie.Need-returns-3
-returns-3 c = let a = c .before .before .before .before .args in c .skip-one .ensures ∙ step-4 (a .route) (inList (a .fs)) (a .masks .now) (a .ids .now) (a .start) (a .len) (a .k) (c .before .before .if1 .left) (c .before .if2 .left)
+unfolding stepWord
+returns-3 c = let r = c .before .before .before .args .route in rw (ne-eqb r 5 (c .before .before .if1 .left), ne-eqb r 6 (c .before .if2 .left)) (c .skip-one .ensures)
 
 pub step-spec : {M : Type 1} → statement M
 step-spec =

@@ -1,90 +1,46 @@
--- The loop has written the words before k. Assumes nothing.
 use borrow.Author.Needs.{needs}
-use mathlib.Core.Path.{_≡_, sym, ap, ap₂, _∙_}
-use mathlib.Core.Bool.{Bool}
+use mathlib.Core.Path.{_≡_, sym, ap, _∙_, subst}
 use mathlib.Core.List.{List}
-use Prim.Native.Nat.{ℕ, _-_, _≤_}
 use native.Mathlib.Omega.{arith}
-use lib.ListN.{length, set}
-use Rattle.bitmap.specs.Lists.{retable}
-use Rattle.bitmap.proofs.Tables.{retable-none, retable-store, retable-length}
-use Rattle.logical_nulls.specs.Fields.{inList}
-use Rattle.logical_nulls.specs.Steps.{wordOf, stepAt}
-use Rattle.logical_nulls.proofs.Writing.{word-starts, words-done}
+use lib.ListN.{length, length-map}
+use Rattle.null_route.specs.declared.Field.{Field}
+use Rattle.null_route.specs.Fields.{inList}
+use Rattle.logical_nulls.specs.Steps.{Taken, wordsOf, stepAt, overOf, Took}
+use Rattle.logical_nulls.proofs.TakenUp.{words-need, step-taken}
+use Rattle.logical_nulls.proofs.Writing.{words-ext}
 use Rattle.logical_nulls.proofs.words.write_steps.Statement.{statement}
 use Rattle.logical_nulls.proofs.words.write_steps.Tie as tie
 
-abbrev Inv-loop : tie.InvT-loop
-Inv-loop route fs masks ids start len out₀ n k₀ out k = (k ≤ n) × (out ≡ retable k (wordOf len (stepAt route (inList fs) masks ids start)) out₀)
+over-of-requires : tie.Need-over-of-requires
+over-of-requires c κs = search needs
 
-abbrev μ-loop : tie.MeasureT-loop
-μ-loop route fs masks ids start len out₀ n k₀ out k = n - k
+taken-fields-requires : tie.Need-taken-fields-requires
+taken-fields-requires c κs = let r = c .before .before .before .pre .1 in (r .few, r .named)
 
-words-for-requires : tie.Need-words-for-requires Inv-loop μ-loop
-words-for-requires c κs = c .before .before .pre .0 .0
+-- the fields are those that the route takes up
+took : (c : tie.After-taken-fields)
+    → Took (overOf (c .before .before .before .before .args .route)) (inList (c .before .before .before .before .args .fs)) (c .taken-fields .result)
+took c = subst (λ (o : Taken). Took o (inList (c .before .before .before .before .args .fs)) (c .taken-fields .result)) (c .before .over-of .ensures) (c .taken-fields .ensures)
 
-loop-holds : tie.Need-loop-holds Inv-loop μ-loop
-loop-holds c = (omega arith, sym (retable-none _ _))
-
-step-requires : tie.Need-step-requires Inv-loop μ-loop
-step-requires c κs =
+write-words-requires : tie.Need-write-words-requires
+write-words-requires c κs =
     let st = c .before .before .before .before .before in
-    let n = c .before .before .words-for in
-    (st .pre .1 (c .before .loop .k) (word-starts (st .args .len) (c .before .loop .k) (n .result) (n .ensures) (c .loop-test .taken)), st .pre .0 .2)
+    let a = st .args in
+    let p = st .pre in
+    let full : length (a .fs .list) ≡ 128 = sym (length-map (a .fs .list) _) ∙ st .good .1 .0 .1 .1 .0 .1 .0 .1 in
+    ((p .0 .0, p .0 .1), words-need (a .route) (a .fs) (c .before .taken-fields .result) (a .masks .now) (a .ids .now) (a .start) (a .len) (omega (arith, p .1 .few)) (p .0 .2) (p .1) (took (c .before)))
 
-mul-out : tie.Need-mul-out Inv-loop μ-loop
-mul-out c = omega (arith, c .before .before .before .before .before .before .pre .0 .1, c .before .before .before .words-for .ensures)
+same-length : tie.Need-same-length
+same-length c = search needs
 
-slice-write-out : tie.Need-slice-write-out Inv-loop μ-loop
-slice-write-out c =
-    let a = c .before .before .before .before .before .before .args in
-    let l = c .before .before .loop in
-    let f : ℕ → Bool = stepAt (a .route) (inList (a .fs)) (a .masks .now) (a .ids .now) (a .start) in
-    omega (arith, c .before .before .before .before .before .before .pre .0 .1, c .before .before .before .words-for .ensures, ap length (l .inv .1), retable-length (l .k) (wordOf (a .len) f) (a .out .now) (omega (arith, c .before .before .before .before .before .before .pre .0 .1, c .before .before .before .words-for .ensures)))
-
-add-k : tie.Need-add-k Inv-loop μ-loop
-add-k c = omega (arith, c .before .before .before .before .before .before .pre .0 .1, c .before .before .before .words-for .ensures)
-
-loop-less : tie.Need-loop-less Inv-loop μ-loop
-loop-less c = search needs
-
-loop-again : tie.Need-loop-again Inv-loop μ-loop
-loop-again c =
-    let a = c .before .before .before .before .before .before .args in
-    let l = c .before .before .loop in
-    let f : ℕ → Bool = stepAt (a .route) (inList (a .fs)) (a .masks .now) (a .ids .now) (a .start) in (
-      omega arith,
-      ap₂ (λ (o : List ℕ) (x : ℕ). set o (l .k) x) (l .inv .1) (c .step .ensures)
-          ∙ retable-store (wordOf (a .len) f) (a .out .now) (l .k) (omega (arith, c .before .before .before .before .before .before .pre .0 .1, c .before .before .before .words-for .ensures)),
-    )
-
-same-length : tie.Need-same-length Inv-loop μ-loop
-same-length c =
-    let a = c .before .before .before .before .before .args in
-    let l = c .before .loop in
-    let f : ℕ → Bool = stepAt (a .route) (inList (a .fs)) (a .masks .now) (a .ids .now) (a .start) in
-    ap length (l .inv .1) ∙ retable-length (l .k) (wordOf (a .len) f) (a .out .now) (omega (arith, c .before .before .before .before .before .pre .0 .1, c .before .before .words-for .ensures))
-
-returns : tie.Need-returns Inv-loop μ-loop
+returns : tie.Need-returns
 returns c =
-    let a = c .before .before .before .before .before .args in
-    let l = c .before .loop in
-    let f : ℕ → Bool = stepAt (a .route) (inList (a .fs)) (a .masks .now) (a .ids .now) (a .start) in
-    l .inv .1 ∙ words-done (a .len) f (a .out .now) (l .k) (c .before .before .words-for .result) (c .before .before .words-for .ensures) (omega arith)
+    let a = c .before .before .before .before .before .before .before .before .args in
+    c .before .before .write-words .ensures
+    ∙ ap (λ (l : List Field). wordsOf (a .len) (stepAt (a .route) l (a .masks .now) (a .ids .now) (a .start)) (a .out .now)) (took (c .before .before .before .before) .list)
+    ∙ words-ext (a .len) _ _ (a .out .now) (λ i h. step-taken (a .route) (inList (a .fs)) (a .masks .now) (a .ids .now) (a .start) i)
 
 pub write-steps-spec : {M : Type 1} → statement M
 write-steps-spec =
     tie.close
-    (tie.spec
-    Inv-loop
-    μ-loop
-    words-for-requires
-    loop-holds
-    step-requires
-    mul-out
-    slice-write-out
-    add-k
-    loop-less
-    loop-again
-    same-length
-    returns)
+    (tie.spec over-of-requires taken-fields-requires write-words-requires same-length returns)

@@ -1,16 +1,10 @@
 -- One law for each way out: 18, 19, 20, or the plan. Assumes nothing.
-use mathlib.Core.Bool.{false}
-use mathlib.Core.Path.{sym, ap, _∙_}
+use mathlib.Core.Path.{ap, _∙_}
 use borrow.Author.Needs.{needs}
 use native.Mathlib.Omega.{arith}
-use mathlib.Core.Option.{Option}
-use Prim.Native.Nat.{ℕ}
-use Rattle.union_array.specs.Types.{sameKind}
-use Rattle.union_builder.specs.Builder.{BuilderColumn, column}
 use Rattle.union_builder.specs.Append.{opened}
-use Rattle.union_builder.specs.Planning.{restOf}
 use Rattle.union_builder.proofs.Asking.{denied, granted}
-use Rattle.union_builder.proofs.Plans.{first-slots-le, at-known, at-new, known-18, known-19, known-yes, new-19, new-20, new-yes}
+use Rattle.union_builder.proofs.Plans.{first-slots-le, known-18, known-19, known-yes, new-19, new-20, new-yes}
 use Rattle.union_builder.proofs.planning.settle.Statement.{statement}
 use Rattle.union_builder.proofs.planning.settle.Tie as tie
 
@@ -23,11 +17,7 @@ refused-requires c κs = search needs
 returns : tie.Need-returns
 returns c =
     let a = c .before .before .before .before .before .before .args in
-    let f = a .f in
-    let k = c .before .before .before .before .if1 .taken in
-    let e = ap (λ (h : BuilderColumn). sameKind (h .kind) (a .kind)) (c .before .before .before .before .before .before .pre .2 k) in
-    c .refused .ensures ∙ known-18 (a .b) (a .name .now) (a .kind) (f .id) (sym e ∙ denied (c .before .before .same-kind .ensures) (c .before .if2 .taken))
-    ∙ ap (λ (o : Option ℕ). restOf (a .b) o (a .name .now) (a .kind)) (at-known f k)
+    c .refused .ensures ∙ known-18 (a .b) (a .f) (a .name .now) (a .kind) (c .before .before .before .before .if1 .taken) (denied (c .before .before .same-kind .ensures) (c .before .if2 .taken))
 
 refused-requires-2 : tie.Need-refused-requires-2
 refused-requires-2 c κs = search needs
@@ -35,23 +25,13 @@ refused-requires-2 c κs = search needs
 returns-2 : tie.Need-returns-2
 returns-2 c =
     let a = c .before .before .before .before .before .before .before .before .args in
-    let f = a .f in
-    let k = c .before .before .before .before .before .before .if1 .taken in
-    let e = ap (λ (h : BuilderColumn). sameKind (h .kind) (a .kind)) (c .before .before .before .before .before .before .before .before .pre .2 k) in
     c .refused2 .ensures
-    ∙ known-19 (a .b) (a .name .now) (a .kind) (f .id) (sym e ∙ granted (c .before .before .before .before .same-kind .ensures) (c .before .before .before .if2 .left)) (c .before .if3 .taken)
-    ∙ ap (λ (o : Option ℕ). restOf (a .b) o (a .name .now) (a .kind)) (at-known f k)
+    ∙ known-19 (a .b) (a .f) (a .name .now) (a .kind) (c .before .before .before .before .before .before .if1 .taken) (granted (c .before .before .before .before .same-kind .ensures) (c .before .before .before .if2 .left)) (c .before .if3 .taken)
 
 returns-3 : tie.Need-returns-3
 returns-3 c =
     let a = c .before .before .before .before .before .before .before .args in
-    let f = a .f in
-    let k = c .before .before .before .before .before .if1 .taken in
-    let h = c .before .before .before .before .before .before .before .pre .2 k in
-    let e = ap (λ (g : BuilderColumn). sameKind (g .kind) (a .kind)) h in
-    ap (λ (g : BuilderColumn). record { column = g; id = f .id; count = a .b .count; refusal = 0; fresh = false }) h
-    ∙ known-yes (a .b) (a .name .now) (a .kind) (f .id) (sym e ∙ granted (c .before .before .before .same-kind .ensures) (c .before .before .if2 .left)) (c .if3 .left)
-    ∙ ap (λ (o : Option ℕ). restOf (a .b) o (a .name .now) (a .kind)) (at-known f k)
+    known-yes (a .b) (a .f) (a .name .now) (a .kind) (c .before .before .before .before .before .if1 .taken) (granted (c .before .before .before .same-kind .ensures) (c .before .before .if2 .left)) (c .if3 .left)
 
 refused-requires-3 : tie.Need-refused-requires-3
 refused-requires-3 c κs = search needs
@@ -59,8 +39,7 @@ refused-requires-3 c κs = search needs
 returns-4 : tie.Need-returns-4
 returns-4 c =
     let a = c .before .before .before .before .before .args in
-    c .refused3 .ensures ∙ new-19 (a .b) (a .name .now) (a .kind) (c .before .if4 .taken)
-    ∙ ap (λ (o : Option ℕ). restOf (a .b) o (a .name .now) (a .kind)) (at-new (a .f) (c .before .before .before .if1 .left))
+    c .refused3 .ensures ∙ new-19 (a .b) (a .f) (a .name .now) (a .kind) (c .before .before .before .if1 .left) (c .before .if4 .taken)
 
 refused-requires-4 : tie.Need-refused-requires-4
 refused-requires-4 c κs = search needs
@@ -68,14 +47,13 @@ refused-requires-4 c κs = search needs
 returns-5 : tie.Need-returns-5
 returns-5 c =
     let a = c .before .before .before .before .before .before .before .args in
-    c .refused4 .ensures ∙ new-20 (a .b) (a .name .now) (a .kind) (c .before .before .before .if4 .left) (c .before .if5 .taken)
-    ∙ ap (λ (o : Option ℕ). restOf (a .b) o (a .name .now) (a .kind)) (at-new (a .f) (c .before .before .before .before .before .if1 .left))
+    c .refused4 .ensures ∙ new-20 (a .b) (a .f) (a .name .now) (a .kind) (c .before .before .before .before .before .if1 .left) (c .before .before .before .if4 .left) (c .before .if5 .taken)
 
-first-slots-requires : tie.Need-first-slots-requires
-first-slots-requires c κs = search needs
+if-sparse-requires : tie.Need-if-sparse-requires
+if-sparse-requires c κs = search needs
 
 opened-column-requires : tie.Need-opened-column-requires
-opened-column-requires c κs = let b = c .before .before .before .before .before .before .before .args .b in (search needs, omega (arith, c .first-slots .ensures, first-slots-le (b .layout) (b .len), c .before .before .before .before .before .before .before .pre .0))
+opened-column-requires c κs = let b = c .before .before .before .before .before .before .before .args .b in (search needs, omega (arith, c .if-sparse .ensures, first-slots-le (b .layout) (b .len), c .before .before .before .before .before .before .before .pre .0))
 
 add-t13 : tie.Need-add-t13
 add-t13 c = search needs
@@ -84,9 +62,8 @@ returns-6 : tie.Need-returns-6
 returns-6 c =
     let a = c .before .before .before .before .before .before .before .before .before .args in
     let o = c .before .opened-column in
-    new-yes (a .b) (a .name .now) (a .kind) (o .result)
-    (o .ensures ∙ ap (opened (a .name .now) (a .kind)) (c .before .before .first-slots .ensures)) (c .before .before .before .before .before .if4 .left) (c .before .before .before .if5 .left)
-    ∙ ap (λ (o : Option ℕ). restOf (a .b) o (a .name .now) (a .kind)) (at-new (a .f) (c .before .before .before .before .before .before .before .if1 .left))
+    new-yes (a .b) (a .f) (a .name .now) (a .kind) (c .before .before .before .before .before .before .before .if1 .left) (o .result)
+    (o .ensures ∙ ap (opened (a .name .now) (a .kind)) (c .before .before .if-sparse .ensures)) (c .before .before .before .before .before .if4 .left) (c .before .before .before .if5 .left)
 
 pub settle-spec : {M : Type 1} → statement M
 settle-spec =
@@ -102,7 +79,7 @@ settle-spec =
     returns-4
     refused-requires-4
     returns-5
-    first-slots-requires
+    if-sparse-requires
     opened-column-requires
     add-t13
     returns-6)

@@ -42,11 +42,9 @@ same-length-5 c = search needs
 returns : tie.Need-returns
 returns c =
     let a = c .before .before .before .before .before .before .before .before .before .before .before .before .before .before .before .before .before .before .before .before .before .before .before .before .args in
-    let w = c .before .before .before .before .before .before .before .before .before .before .before .before .before .before .before .before .before .before .before .before .before .before .before .before .pre in
     let m = buffersOf (a .type-ids .now) (a .offsets .now) (a .values .now) (a .masks .now) (a .names .now) in
     let q = c .before .before .before .before .put-slots in
-    all-stored (a .b) (a .p) (valueOf (a .present) (a .word)) (w .place) (w .before) (w .count) m (a .name .now) _ _ _ _ _
-    (c .before .before .before .before .before .before .before .before .before .before .before .before .before .before .before .before .before .put-type-id .ensures) (c .before .before .before .before .before .before .before .before .before .before .before .before .before .put-offset .ensures) (c .before .before .before .before .before .before .before .before .before .put-new-name .ensures) (q .ensures .0) (q .ensures .1)
+    all-stored (a .b) (a .p) (valueOf (a .present) (a .word)) m (a .name .now) _ _ _ _ _ (c .before .before .before .before .before .before .before .before .before .before .before .before .before .before .before .before .before .put-type-id .ensures) (c .before .before .before .before .before .before .before .before .before .before .before .before .before .put-offset .ensures) (c .before .before .before .before .before .before .before .before .before .put-new-name .ensures) (q .ensures .0) (q .ensures .1)
 
 pub store-spec : {M : Type 1} → statement M
 store-spec =

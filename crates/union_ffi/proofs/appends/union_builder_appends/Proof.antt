@@ -37,8 +37,8 @@ append-run-requires c κs =
     let r = readingsOf (p .text .now) (p .starts .now) (p .sizes .now) (p .kinds .now) (p .present .now) (p .bits .now) in
     lengths-are r (length (p .refusals .now)) ∙ sym (c .before .before .before .before .before .before .before .before .lengths-match .ensures) ∙ not-false _ (c .before .before .before .before .before .before .before .if2 .left)
 
-builder-to-requires : tie.Need-builder-to-requires
-builder-to-requires c κs = search needs
+builder-into-requires : tie.Need-builder-into-requires
+builder-into-requires c κs = search needs
 
 same-length : tie.Need-same-length
 same-length c = search needs
@@ -66,7 +66,7 @@ returns-3 c =
     let u = c .before .before .before .before .before .before .before .before .before .before .before .before .before .before .before .before .before .before .builder-from in
     let o = c .before .before .before .before .before .before .before .before .before .before .before .append-run in
     appends-good (p .builder) m r (p .refusals .now) (sym (c .before .before .before .before .before .before .before .before .before .before .before .before .before .before .before .before .before .before .before .before .before .before .is-builder .ensures) ∙ not-false _ (c .before .before .before .before .before .before .before .before .before .before .before .before .before .before .before .before .before .before .before .before .before .if1 .left)) (lengths-are r (length (p .refusals .now)) ∙ sym (c .before .before .before .before .before .before .before .before .before .before .before .before .before .before .before .before .before .before .before .before .lengths-match .ensures) ∙ not-false _ (c .before .before .before .before .before .before .before .before .before .before .before .before .before .before .before .before .before .before .before .if2 .left))
-    (u .result) (o .result) (u .ensures) _ _ (o .ensures) (c .builder-to .result) (c .builder-to .ensures)
+    (u .result) (o .result) (u .ensures) _ _ (o .ensures) (c .builder-into .result) (c .builder-into .ensures)
 
 pub union-builder-appends-spec : {M : Type 1} → statement M
 union-builder-appends-spec =
@@ -78,7 +78,7 @@ union-builder-appends-spec =
     returns-2
     builder-from-requires
     append-run-requires
-    builder-to-requires
+    builder-into-requires
     same-length
     same-length-2
     same-length-3

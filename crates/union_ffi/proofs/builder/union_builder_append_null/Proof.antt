@@ -32,8 +32,8 @@ kind-from-requires c κs = search needs
 append-null-requires : tie.Need-append-null-requires
 append-null-requires c κs = search needs
 
-builder-to-requires : tie.Need-builder-to-requires
-builder-to-requires c κs = search needs
+appended-to-requires : tie.Need-appended-to-requires
+appended-to-requires c κs = search needs
 
 same-length : tie.Need-same-length
 same-length c = search needs
@@ -52,11 +52,12 @@ same-length-5 c = search needs
 
 returns-3 : tie.Need-returns-3
 returns-3 c =
-    let p = c .before .before .before .before .before .before .before .before .before .before .before .before .before .before .before .before .before .before .before .before .before .before .before .before .before .args in
+    let p = c .before .before .before .before .before .before .before .before .before .before .before .before .before .before .before .before .before .before .before .before .before .before .before .before .args in
     let m = buffersOf (p .type-ids .now) (p .offsets .now) (p .values .now) (p .masks .now) (p .names .now) in
-    let r = c .before .before .before .before .before .before .before .before .before .before .append-null in
-    append-good (p .builder) m (p .name .now) (p .kind) none (sym (c .before .before .before .before .before .before .before .before .before .before .before .before .before .before .before .before .before .before .before .before .is-builder .ensures) ∙ not-false _ (c .before .before .before .before .before .before .before .before .before .before .before .before .before .before .before .before .before .before .before .if1 .left)) (omega (arith, c .before .before .before .before .before .before .before .before .before .before .before .before .before .before .before .before .before .before .if2 .left))
-    (c .before .before .before .before .before .before .before .before .before .before .before .before .before .before .before .before .before .builder-from .result) (c .before .before .before .before .before .before .before .before .before .before .before .before .before .before .before .before .before .builder-from .ensures) (c .before .before .before .before .before .before .before .before .before .before .before .before .before .before .before .before .kind-from .result) (c .before .before .before .before .before .before .before .before .before .before .before .before .before .before .before .before .kind-from .ensures) (r .result) _ (r .ensures) (c .builder-to .result) (c .builder-to .ensures)
+    let u = c .before .before .before .before .before .before .before .before .before .before .before .before .before .before .before .before .builder-from in
+    let k = c .before .before .before .before .before .before .before .before .before .before .before .before .before .before .before .kind-from in
+    let r = c .before .before .before .before .before .before .before .before .before .append-null in
+    append-good (p .builder) m (p .name .now) (p .kind) none (sym (c .before .before .before .before .before .before .before .before .before .before .before .before .before .before .before .before .before .before .before .is-builder .ensures) ∙ not-false _ (c .before .before .before .before .before .before .before .before .before .before .before .before .before .before .before .before .before .before .if1 .left)) (omega (arith, c .before .before .before .before .before .before .before .before .before .before .before .before .before .before .before .before .before .if2 .left)) (u .result) (u .ensures) (k .result) (k .ensures) (r .result) _ (r .ensures) (c .appended-to .result) (c .appended-to .ensures)
 
 pub union-builder-append-null-spec : {M : Type 1} → statement M
 union-builder-append-null-spec =
@@ -68,7 +69,7 @@ union-builder-append-null-spec =
     builder-from-requires
     kind-from-requires
     append-null-requires
-    builder-to-requires
+    appended-to-requires
     same-length
     same-length-2
     same-length-3

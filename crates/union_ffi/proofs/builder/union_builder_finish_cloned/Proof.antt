@@ -24,14 +24,14 @@ builder-from-requires c κs = search needs
 finish-cloned-requires : tie.Need-finish-cloned-requires
 finish-cloned-requires c κs = search needs
 
-finished-to-requires : tie.Need-finished-to-requires
-finished-to-requires c κs = search needs
+array-to-requires : tie.Need-array-to-requires
+array-to-requires c κs = search needs
 
 returns-2 : tie.Need-returns-2
 unfolding cFinishCloned
 returns-2 c =
-    let good : isBuilder (c .before .before .before .before .before .before .before .before .args .builder) ≡ true = sym (c .before .before .before .before .is-builder .ensures) ∙ not-false _ (c .before .before .before .if1 .left) in
-    rw (good, c .finished-to .ensures, c .before .finish-cloned .ensures, c .before .before .builder-from .ensures)
+    let good : isBuilder (c .before .before .before .before .before .before .before .before .before .args .builder) ≡ true = sym (c .before .before .before .before .before .is-builder .ensures) ∙ not-false _ (c .before .before .before .before .if1 .left) in
+    rw (good, c .array-to .ensures, c .before .before .finish-cloned .ensures, c .before .before .before .builder-from .ensures)
 
 pub union-builder-finish-cloned-spec : {M : Type 1} → statement M
 union-builder-finish-cloned-spec =
@@ -42,5 +42,5 @@ union-builder-finish-cloned-spec =
     returns
     builder-from-requires
     finish-cloned-requires
-    finished-to-requires
+    array-to-requires
     returns-2)

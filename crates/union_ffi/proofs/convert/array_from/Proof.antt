@@ -1,25 +1,32 @@
 use mathlib.Core.Path.{_≡_, refl, sym, _∙_}
-use mathlib.Core.List.{map}
 use Prim.Native.Nat.{_-_, _≤_}
 use native.Mathlib.Omega.{arith}
 use borrow.Author.Needs.{needs}
 use lib.ListN.{length, length-map}
-use Rattle.union_ffi.specs.Arrays.{columnFrom, arrayFrom}
-use Rattle.union_ffi.proofs.Maps.{noCColumn, mappedTo, mapped-none, mapped-turn, mapped-all}
+use Rattle.union_ffi.specs.Arrays.{columnFrom}
+use Rattle.union_ffi.specs.Numbers.{inUse, firstBy}
+use Rattle.union_ffi.proofs.Maps.{noCColumn, array-from-is, first-none, first-turn, first-done, in-use-most}
 use Rattle.union_ffi.proofs.convert.array_from.Statement.{statement}
 use Rattle.union_ffi.proofs.convert.array_from.Tie as tie
 
 abbrev Inv-loop : tie.InvT-loop
-Inv-loop a columns₀ k₀ columns k = (k ≤ 128) × (length columns₀ ≡ 128) × (columns ≡ mappedTo columnFrom noCColumn (a .columns) columns₀ k)
+Inv-loop a columns₀ n k₀ columns k = (k ≤ n) × (n ≤ 128) × (n ≡ inUse (a .fields)) × (length columns₀ ≡ 128) × (columns ≡ firstBy k columnFrom (a .columns) columns₀)
 
 abbrev μ-loop : tie.MeasureT-loop
-μ-loop a columns₀ k₀ columns k = 128 - k
+μ-loop a columns₀ n k₀ columns k = n - k
 
 no-column-requires : tie.Need-no-column-requires Inv-loop μ-loop
 no-column-requires c κs = search needs
 
+in-use-requires : tie.Need-in-use-requires Inv-loop μ-loop
+in-use-requires c κs = search needs
+
 loop-holds : tie.Need-loop-holds Inv-loop μ-loop
-loop-holds c = (omega arith, refl, mapped-none columnFrom noCColumn (c .before .args .t1 .columns) _)
+loop-holds c =
+    let s = c .before .before in
+    let a = s .args .t1 in
+    let e = c .in-use .ensures in
+    (omega arith, rw e (in-use-most (a .fields)), e, refl, first-none columnFrom (a .columns) _)
 
 mul-c : tie.Need-mul-c Inv-loop μ-loop
 mul-c c = omega arith
@@ -45,22 +52,24 @@ loop-less c = omega arith
 loop-again : tie.Need-loop-again Inv-loop μ-loop
 loop-again c =
     let l = c .before .before .before in
-    let a = c .before .before .before .before .before .args .t1 in
-    (omega arith, l .loop .inv .1, mapped-turn columnFrom noCColumn (a .columns) _ (l .loop .columns) (l .loop .k) (c .column-from .result) (l .loop .inv .2) (c .column-from .ensures) (omega arith))
+    let s = l .before .before .before in
+    let a = s .args .t1 in
+    let full : length (a .columns) ≡ 128 = sym (length-map (a .columns) _) ∙ s .good .0 .1 .1 .0 .1 .0 .1 in
+    let i = l .loop .inv in
+    (omega arith, i .1, i .2, i .3, first-turn columnFrom noCColumn (a .columns) _ (l .loop .columns) (l .loop .k) (c .column-from .result) (i .4) (c .column-from .ensures) (omega arith) (omega arith))
 
 layout-from-requires : tie.Need-layout-from-requires Inv-loop μ-loop
 layout-from-requires c κs = search needs
 
 returns : tie.Need-returns Inv-loop μ-loop
-unfolding arrayFrom
 returns c =
     let l = c .before .before in
-    let s = c .before .before .before .before in
-    let a = s .args .t1 in
-    let full : length (a .columns) ≡ 128 = sym (length-map (a .columns) _) ∙ s .good .0 .1 .1 .0 .1 .0 .1 in
-    let all : l .loop .k ≡ 128 = omega arith in
-    let e : l .loop .columns ≡ map columnFrom (a .columns) = mapped-all columnFrom noCColumn (a .columns) _ (l .loop .columns) 128 full (l .loop .inv .1) (rw all at (l .loop .inv .2)) in
-    rw (e, c .layout-from .ensures)
+    let a = l .before .before .before .args .t1 in
+    let i = l .loop .inv in
+    let all : l .loop .k ≡ inUse (a .fields) = omega arith in
+    let e : l .loop .columns ≡ firstBy (a .fields) columnFrom (a .columns) _ = first-done columnFrom (a .fields) (l .loop .k) (a .columns) _ (l .loop .columns) (i .4) all (i .3) in
+    let z = l .before .before .no-column in
+    array-from-is a (z .result) (l .loop .columns) (c .layout-from .result) (z .ensures) e (c .layout-from .ensures)
 
 pub array-from-spec : {M : Type 1} → statement M
 array-from-spec =
@@ -69,6 +78,7 @@ array-from-spec =
     Inv-loop
     μ-loop
     no-column-requires
+    in-use-requires
     loop-holds
     mul-c
     element-copy-out-c

@@ -1,22 +1,29 @@
 use mathlib.Core.Path.{_≡_, refl, sym, _∙_}
-use mathlib.Core.List.{map}
 use Prim.Native.Nat.{_-_, _≤_}
 use native.Mathlib.Omega.{arith}
 use borrow.Author.Needs.{needs}
 use lib.ListN.{length, length-map}
 use Rattle.union_ffi.specs.Builders.{builderColumnFrom, builderFrom}
-use Rattle.union_ffi.proofs.Maps.{noCBuilderColumn, mappedTo, mapped-none, mapped-turn, mapped-all}
+use Rattle.union_ffi.specs.Numbers.{inUse, firstBy}
+use Rattle.union_ffi.proofs.Maps.{noCBuilderColumn, first-none, first-turn, first-done, in-use-most}
 use Rattle.union_ffi.proofs.convert.builder_from.Statement.{statement}
 use Rattle.union_ffi.proofs.convert.builder_from.Tie as tie
 
 abbrev Inv-loop : tie.InvT-loop
-Inv-loop b columns₀ k₀ columns k = (k ≤ 128) × (length columns₀ ≡ 128) × (columns ≡ mappedTo builderColumnFrom noCBuilderColumn (b .columns) columns₀ k)
+Inv-loop b columns₀ n k₀ columns k = (k ≤ n) × (n ≤ 128) × (n ≡ inUse (b .count)) × (length columns₀ ≡ 128) × (columns ≡ firstBy k builderColumnFrom (b .columns) columns₀)
 
 abbrev μ-loop : tie.MeasureT-loop
-μ-loop b columns₀ k₀ columns k = 128 - k
+μ-loop b columns₀ n k₀ columns k = n - k
+
+in-use-requires : tie.Need-in-use-requires Inv-loop μ-loop
+in-use-requires c κs = search needs
 
 loop-holds : tie.Need-loop-holds Inv-loop μ-loop
-loop-holds c = (omega arith, refl, mapped-none builderColumnFrom noCBuilderColumn (c .args .t1 .columns) _)
+loop-holds c =
+    let s = c .before in
+    let a = s .args .t1 in
+    let e = c .in-use .ensures in
+    (omega arith, rw e (in-use-most (a .count)), e, refl, first-none builderColumnFrom (a .columns) _)
 
 mul-c : tie.Need-mul-c Inv-loop μ-loop
 mul-c c = omega arith
@@ -42,8 +49,11 @@ loop-less c = omega arith
 loop-again : tie.Need-loop-again Inv-loop μ-loop
 loop-again c =
     let l = c .before .before .before in
-    let a = c .before .before .before .before .args .t1 in
-    (omega arith, l .loop .inv .1, mapped-turn builderColumnFrom noCBuilderColumn (a .columns) _ (l .loop .columns) (l .loop .k) (c .builder-column-from .result) (l .loop .inv .2) (c .builder-column-from .ensures) (omega arith))
+    let s = l .before .before in
+    let a = s .args .t1 in
+    let full : length (a .columns) ≡ 128 = sym (length-map (a .columns) _) ∙ s .good .0 .1 .1 .0 .1 .0 .1 in
+    let i = l .loop .inv in
+    (omega arith, i .1, i .2, i .3, first-turn builderColumnFrom noCBuilderColumn (a .columns) _ (l .loop .columns) (l .loop .k) (c .builder-column-from .result) (i .4) (c .builder-column-from .ensures) (omega arith) (omega arith))
 
 layout-from-requires : tie.Need-layout-from-requires Inv-loop μ-loop
 layout-from-requires c κs = search needs
@@ -52,11 +62,10 @@ returns : tie.Need-returns Inv-loop μ-loop
 unfolding builderFrom
 returns c =
     let l = c .before .before in
-    let s = c .before .before .before in
-    let a = s .args .t1 in
-    let full : length (a .columns) ≡ 128 = sym (length-map (a .columns) _) ∙ s .good .0 .1 .1 .0 .1 .0 .1 in
-    let all : l .loop .k ≡ 128 = omega arith in
-    let e : l .loop .columns ≡ map builderColumnFrom (a .columns) = mapped-all builderColumnFrom noCBuilderColumn (a .columns) _ (l .loop .columns) 128 full (l .loop .inv .1) (rw all at (l .loop .inv .2)) in
+    let a = l .before .before .args .t1 in
+    let i = l .loop .inv in
+    let all : l .loop .k ≡ inUse (a .count) = omega arith in
+    let e : l .loop .columns ≡ firstBy (a .count) builderColumnFrom (a .columns) _ = first-done builderColumnFrom (a .count) (l .loop .k) (a .columns) _ (l .loop .columns) (i .4) all (i .3) in
     rw (e, c .layout-from .ensures)
 
 pub builder-from-spec : {M : Type 1} → statement M
@@ -65,6 +74,7 @@ builder-from-spec =
     (tie.spec
     Inv-loop
     μ-loop
+    in-use-requires
     loop-holds
     mul-c
     element-copy-out-c

@@ -1,0 +1,15 @@
+use borrow.Author.Tests.{eq-eqb, ne-eqb}
+use Rattle.logical_nulls.proofs.taking.over_of.Statement.{statement}
+use Rattle.logical_nulls.proofs.taking.over_of.Tie as tie
+
+returns : tie.Need-returns
+returns c = rw (eq-eqb (c .before .args .route) 5 (c .if1 .taken))
+
+returns-2 : tie.Need-returns-2
+returns-2 c = rw (ne-eqb (c .before .before .args .route) 5 (c .before .if1 .left), eq-eqb (c .before .before .args .route) 6 (c .if2 .taken))
+
+returns-3 : tie.Need-returns-3
+returns-3 c = rw (ne-eqb (c .before .before .args .route) 5 (c .before .if1 .left), ne-eqb (c .before .before .args .route) 6 (c .if2 .left))
+
+pub over-of-spec : {M : Type 1} → statement M
+over-of-spec = tie.close (tie.spec returns returns-2 returns-3)

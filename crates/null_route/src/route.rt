@@ -1,0 +1,64 @@
+// The route of the null mask.
+ghost use mathlib.Core.Path.{_≡_};
+ghost use Prim.Native.Nat.{_≤_};
+ghost use Rattle.null_route.specs.Route.{cheaper, sparseRoute};
+ghost use Rattle.null_route.specs.Fields.{routeBy, routeFor};
+use crate::Choice;
+use crate::Fields;
+use union_array::Layout;
+
+// A later strategy is taken only if it applies and costs less.
+fn cheaper(best: Choice, applies: bool, cost: usize, route: u8) -> Choice
+    ensures { λ r. ⌜ r ≡ cheaper best applies cost route ⌝ }
+{
+    if applies {
+        if cost < best.cost {
+            return Choice { cost, route };
+        }
+    }
+    best
+}
+
+// The cheapest strategy for a sparse union of n fields, of which `some` have a null and `full` are fully null.
+fn sparse_route(gather: usize, n: usize, some: usize, full: usize) -> u8
+    requires { ⌜ (1 ≤ n) × (full ≤ n) ⌝ }
+    ensures { λ r. ⌜ r ≡ sparseRoute gather n some full ⌝ }
+{
+    let first = Choice {
+        cost: gather,
+        route: 3,
+    };
+    let one = cheaper(first, some == n, n - 1, 4);
+    let without = cheaper(one, true, some, 5);
+    let best = cheaper(without, true, n - full, 6);
+    best.route
+}
+
+// The route for n fields, the first of which has a mask or not.
+fn route_by(layout: Layout, n: usize, masked: bool, some: usize, full: usize, gather: usize) -> u8
+    requires { ⌜ full ≤ n ⌝ }
+    ensures { λ r. ⌜ r ≡ routeBy layout n masked some full gather ⌝ }
+{
+    if n <= 1 {
+        return masked as u8;
+    }
+    if some == 0 {
+        return 0;
+    }
+    if full == n {
+        return 2;
+    }
+    match layout {
+        Layout::Sparse => sparse_route(gather, n, some, full),
+        Layout::Dense => 3,
+    }
+}
+
+// The route for the fields of an array.
+pub fn route_for(layout: Layout, fs: Fields, gather: usize) -> u8
+    requires { ⌜ fs .full ≤ fs .count ⌝ }
+    ensures { λ r. ⌜ r ≡ routeFor layout fs gather ⌝ }
+{
+    let first = fs.list[0];
+    route_by(layout, fs.count, first.masked, fs.some, fs.full, gather)
+}

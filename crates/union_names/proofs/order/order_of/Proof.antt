@@ -1,0 +1,79 @@
+use mathlib.Core.Path.{_≡_, refl, sym, _∙_}
+use Prim.Native.Nat.{_-_, _≤_}
+use native.Mathlib.Omega.{arith}
+use lib.ListN.{length}
+use Rattle.union_names.specs.Order.{nameBy, goesBefore, Listed}
+use Rattle.union_names.proofs.Listing.{held-less, listed-none, listed-more, place-le}
+use Rattle.union_names.proofs.order.order_of.Statement.{statement}
+use Rattle.union_names.proofs.order.order_of.Tie as tie
+
+abbrev Inv-loop : tie.InvT-loop
+Inv-loop names sizes n order₀ k₀ order k = (k ≤ n) × (length order ≡ 128) × Listed names sizes order k
+
+abbrev μ-loop : tie.MeasureT-loop
+μ-loop names sizes n order₀ k₀ order k = n - k
+
+loop-holds : tie.Need-loop-holds Inv-loop μ-loop
+loop-holds c = (omega arith, refl, listed-none _ _ _)
+
+slice-aggregate-place-of : tie.Need-slice-aggregate-place-of Inv-loop μ-loop
+slice-aggregate-place-of c = sym (c .before .before .loop .inv .1)
+
+place-of-requires : tie.Need-place-of-requires Inv-loop μ-loop
+place-of-requires c κs =
+    let l = c .before .before in
+    let s = l .before .before .before in
+    (held-less (s .args .names .now) (s .args .sizes .now) (s .args .n) (l .loop .k) (s .pre) (omega arith), l .loop .inv .2)
+
+slice-aggregate-insert-at : tie.Need-slice-aggregate-insert-at Inv-loop μ-loop
+slice-aggregate-insert-at c = sym (c .before .before .before .before .loop .inv .1)
+
+insert-at-requires : tie.Need-insert-at-requires Inv-loop μ-loop
+insert-at-requires c κs =
+    let l = c .before .before .before .before in
+    let s = l .before .before .before in
+    let few = s .pre .few in
+    let le = place-le (s .args .names .now) (s .args .sizes .now) (l .loop .order) (goesBefore (nameBy (s .args .names .now) (s .args .sizes .now)) (l .loop .k)) (l .loop .k) (l .loop .inv .2 .room) in
+    (omega (arith, c .before .place-of .ensures), omega arith, omega arith)
+
+add-k : tie.Need-add-k Inv-loop μ-loop
+add-k c = omega arith
+
+loop-less : tie.Need-loop-less Inv-loop μ-loop
+loop-less c = omega arith
+
+loop-again : tie.Need-loop-again Inv-loop μ-loop
+loop-again c =
+    let l = c .before .before .before .before .before .before in
+    let s = l .before .before .before in
+    let few = s .pre .few in
+    let put = c .before .insert-at in
+    let found = c .before .before .before .place-of in (
+      omega arith,
+      put .ensures .1 ∙ l .loop .inv .1,
+      listed-more (s .args .names .now) (s .args .sizes .now) (l .loop .order) (put .last .0) (l .loop .k) (found .result) (l .loop .inv .2)
+          (omega arith) (put .ensures .1) (found .ensures) (put .ensures .0),
+    )
+
+returns : tie.Need-returns Inv-loop μ-loop
+returns c =
+    let l = c .before in
+    let s = l .before .before .before in
+    let all : l .loop .k ≡ s .args .n = omega arith in
+    rw all at (l .loop .inv .2)
+
+pub order-of-spec : {M : Type 1} → statement M
+order-of-spec =
+    tie.close
+    (tie.spec
+    Inv-loop
+    μ-loop
+    loop-holds
+    slice-aggregate-place-of
+    place-of-requires
+    slice-aggregate-insert-at
+    insert-at-requires
+    add-k
+    loop-less
+    loop-again
+    returns)
