@@ -452,7 +452,8 @@ pub fn script(random: &mut Random) -> Script {
     Script { dense: random.one_in(2), capacity, limit, calls }
 }
 
-fn script_names(random: &mut Random, limit: usize) -> Vec<Vec<u8>> {
+/// Names for a list of builder calls, at most one more than the limit.
+pub fn script_names(random: &mut Random, limit: usize) -> Vec<Vec<u8>> {
     let count = 1 + random.below(limit + 1);
     let mut names: Vec<Vec<u8>> = (0..count).map(|place| format!("{}", place * 7 % 131).into_bytes()).collect();
     let others: [&str; 8] = ["", "a", "ab", "aa", "é", "\u{10348}", "\u{7f}", "12345678901234567890123456789012"];

@@ -6,6 +6,8 @@ mod builders;
 mod filled;
 mod masks;
 
+pub use builders::original_append;
+
 use crate::cases::{Input, Random};
 use crate::oracle::{Outcome, Strategy, Value};
 use crate::plain::{Batch, Column, Kind, Lent, State};

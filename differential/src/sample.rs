@@ -4,6 +4,9 @@
 //! column `values mask name slots bit size id kind masked`, then the type ids (as bytes), offsets (as u32), values,
 //! masks and names, each as its length and its entries, then the number of calls and each call as `op a b`. A 0 ends
 //! the file. The answers' file has a line for each call: op, 1 if accepted or 0 if refused, and the answer's numbers.
+//! Cases of builders begin with 2; `sample/builders.rs` tells their form.
+
+mod builders;
 
 use crate::cases::{self, Random};
 use crate::compare::{GATHER_COSTS, STRATEGIES, number};
@@ -31,6 +34,10 @@ fn list<T>(text: &mut String, entries: &[T], number: impl Fn(&T) -> u64) {
 impl Sample {
     fn call(&mut self, op: u64, a: usize, b: usize, answer: Option<Vec<u64>>) {
         self.calls.push([op, a as u64, b as u64]);
+        self.answer(op, answer);
+    }
+
+    fn answer(&mut self, op: u64, answer: Option<Vec<u64>>) {
         write!(self.answers, "{op} {}", u8::from(answer.is_some())).unwrap();
         for number in answer.unwrap_or_default() {
             write!(self.answers, " {number}").unwrap();
@@ -65,9 +72,14 @@ impl Sample {
         list(text, &case.lent.values, |word| *word);
         list(text, &case.lent.masks, |word| *word);
         list(text, &case.lent.names, |byte| u64::from(*byte));
-        writeln!(text, "{}", self.calls.len()).unwrap();
+        self.call_list();
+    }
+
+    /// Writes down the calls that were made since the last case.
+    fn call_list(&mut self) {
+        writeln!(self.cases, "{}", self.calls.len()).unwrap();
         for [op, a, b] in self.calls.drain(..) {
-            writeln!(text, "{op} {a} {b}").unwrap();
+            writeln!(self.cases, "{op} {a} {b}").unwrap();
         }
     }
 
@@ -154,11 +166,8 @@ fn accepted(random: &mut Random) -> Case {
     case
 }
 
-fn sample_of(random: &mut Random, sample: &mut Sample) {
-    let mut case = accepted(random);
-    let first = case.clone();
-    let mut union = Union::try_new(&case.batch, &case.lent).answer().expect("an accepted batch");
-    sample.call(1, 0, 0, Some(vec![]));
+/// Calls on a union and on a chain of its slices; answers the last one that was accepted.
+fn calls_on(random: &mut Random, sample: &mut Sample, mut case: Case, mut union: Union) -> Union {
     let slices = cases::slices(random, case.batch.count);
     for (start, count) in std::iter::once((0, case.batch.count)).chain(slices) {
         if (start, count) != (0, case.batch.count) {
@@ -174,7 +183,15 @@ fn sample_of(random: &mut Random, sample: &mut Sample) {
         sample.whole(random, &case, &union);
         sample.masks(random, &case, &union);
     }
-    sample.case(&first);
+    union
+}
+
+fn sample_of(random: &mut Random, sample: &mut Sample) {
+    let case = accepted(random);
+    let union = Union::try_new(&case.batch, &case.lent).answer().expect("an accepted batch");
+    sample.call(1, 0, 0, Some(vec![]));
+    calls_on(random, sample, case.clone(), union);
+    sample.case(&case);
 }
 
 /// A batch that the original's `try_new` refuses.
@@ -190,7 +207,7 @@ fn refused(random: &mut Random) -> Case {
     }
 }
 
-/// Writes `stdin` and `stdout` into a folder: this many cases, one in four refused.
+/// Writes `stdin` and `stdout` into a folder: this many arrays, one in four refused, and a quarter as many builders.
 pub fn write(cases: u64, seed: u64, folder: &str) {
     let (mut random, mut sample) = (Random(seed), Sample::default());
     for k in 0..cases {
@@ -202,8 +219,12 @@ pub fn write(cases: u64, seed: u64, folder: &str) {
             sample_of(&mut random, &mut sample);
         }
     }
+    for _ in 0..cases / 4 {
+        builders::sample_of(&mut random, &mut sample);
+    }
     sample.cases.push_str("0\n");
     std::fs::write(format!("{folder}/stdin"), &sample.cases).expect("a folder to write to");
     std::fs::write(format!("{folder}/stdout"), &sample.answers).expect("a folder to write to");
-    println!("{cases} cases and {} answers in {folder}", sample.answers.lines().count());
+    let builders = cases / 4;
+    println!("{cases} arrays, {builders} builders and {} answers in {folder}", sample.answers.lines().count());
 }

@@ -216,7 +216,7 @@ fn reading(call: &Call) -> Option<Reading> {
 }
 
 /// Runs an append of the original; answers its number.
-pub(super) fn original_append(builder: &mut Builder, call: &Call) -> u8 {
+pub fn original_append(builder: &mut Builder, call: &Call) -> u8 {
     let text = |name: &[u8]| String::from_utf8(name.to_vec()).expect("an accepted name");
     match call {
         Call::Append { name, kind, word } => number(&builder.append(&text(name), *kind, *word)),

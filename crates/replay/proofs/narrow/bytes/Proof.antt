@@ -1,0 +1,67 @@
+use mathlib.Core.Path.{_≡_}
+use Prim.Native.Nat.{_-_}
+use native.Mathlib.Omega.{arith}
+use lib.ListN.{length, length-set}
+use Rattle.replay.proofs.narrow.bytes.Statement.{statement}
+use Rattle.replay.proofs.narrow.bytes.Tie as tie
+
+abbrev Inv-loop : tie.InvT-loop
+Inv-loop list out₀ i₀ i-end out i = length out ≡ length out₀
+
+abbrev μ-loop : tie.MeasureT-loop
+μ-loop list out₀ i₀ i-end out i = i-end - i
+
+loop-holds : tie.Need-loop-holds Inv-loop μ-loop
+loop-holds c = omega arith
+
+same-length : tie.Need-same-length Inv-loop μ-loop
+same-length c = omega arith
+
+returns : tie.Need-returns Inv-loop μ-loop
+returns c = tt
+
+mul-byte : tie.Need-mul-byte Inv-loop μ-loop
+mul-byte c = omega arith
+
+shared-slice-read-byte : tie.Need-shared-slice-read-byte Inv-loop μ-loop
+shared-slice-read-byte c = omega arith
+
+byte-requires : tie.Need-byte-requires Inv-loop μ-loop
+byte-requires c κs = tt
+
+slice-write-out : tie.Need-slice-write-out Inv-loop μ-loop
+slice-write-out c = omega arith
+
+add-i : tie.Need-add-i Inv-loop μ-loop
+add-i c = omega arith
+
+loop-less : tie.Need-loop-less Inv-loop μ-loop
+loop-less c = omega arith
+
+loop-again : tie.Need-loop-again Inv-loop μ-loop
+loop-again c = simp length-set (omega arith)
+
+same-length-2 : tie.Need-same-length-2 Inv-loop μ-loop
+same-length-2 c = omega arith
+
+returns-2 : tie.Need-returns-2 Inv-loop μ-loop
+returns-2 c = tt
+
+pub bytes-spec : {M : Type 1} → statement M
+bytes-spec =
+    tie.close
+    (tie.spec
+    Inv-loop
+    μ-loop
+    loop-holds
+    same-length
+    returns
+    mul-byte
+    shared-slice-read-byte
+    byte-requires
+    slice-write-out
+    add-i
+    loop-less
+    loop-again
+    same-length-2
+    returns-2)

@@ -1,0 +1,131 @@
+// A case's description of a union array, and where its lists are.
+use crate::narrow;
+use crate::numbers;
+use union_array::Column;
+use union_array::Kind;
+use union_array::Layout;
+use union_array::UnionArray;
+use union_array::questions;
+ghost use Prim.Native.Nat.{_≤_};
+
+// Where a case has its lists and its calls.
+pub struct Places {
+    pub ids: usize,
+    pub offsets: usize,
+    pub values: usize,
+    pub masks: usize,
+    pub names: usize,
+    pub calls: usize,
+}
+
+pub fn kind_of(n: u64) -> Kind {
+    match n {
+        1 => Kind::Int16,
+        2 => Kind::Int32,
+        3 => Kind::Int64,
+        4 => Kind::UInt8,
+        5 => Kind::UInt16,
+        6 => Kind::UInt32,
+        7 => Kind::UInt64,
+        8 => Kind::Float32,
+        9 => Kind::Float64,
+        _ => Kind::Int8,
+    }
+}
+
+pub fn kind_number(kind: Kind) -> u64 {
+    match kind {
+        Kind::Int8 => 0,
+        Kind::Int16 => 1,
+        Kind::Int32 => 2,
+        Kind::Int64 => 3,
+        Kind::UInt8 => 4,
+        Kind::UInt16 => 5,
+        Kind::UInt32 => 6,
+        Kind::UInt64 => 7,
+        Kind::Float32 => 8,
+        Kind::Float64 => 9,
+    }
+}
+
+fn layout_of(n: u64) -> Layout {
+    if n == 1 {
+        return Layout::Dense;
+    }
+    Layout::Sparse
+}
+
+// A number of the description, as a size.
+fn size_at(words: &[u64], at: usize, k: usize) -> usize {
+    numbers::size(words, numbers::past(at, k))
+}
+
+fn byte_at(words: &[u64], at: usize, k: usize) -> u8 {
+    narrow::byte(numbers::get(words, numbers::past(at, k)))
+}
+
+// The column whose nine numbers are at a place.
+fn column(words: &[u64], at: usize) -> Column {
+    Column {
+        values: size_at(words, at, 0),
+        mask: size_at(words, at, 1),
+        name: size_at(words, at, 2),
+        slots: (size_at(words, at, 3) % 4294967296) as u32,
+        bit: byte_at(words, at, 4),
+        size: byte_at(words, at, 5),
+        id: narrow::id(numbers::get(words, numbers::past(at, 6))),
+        kind: kind_of(numbers::get(words, numbers::past(at, 7))),
+        masked: byte_at(words, at, 8) == 1,
+    }
+}
+
+// How many columns the case at a place has, at most 128.
+fn column_count(words: &[u64], at: usize) -> usize
+    ensures { λ r. ⌜ r ≤ 128 ⌝ }
+{
+    let n = size_at(words, at, 8);
+    if n < 128 {
+        return n;
+    }
+    128
+}
+
+// The columns of the case at a place; zeros after them.
+fn columns(words: &[u64], at: usize) -> [Column; 128] {
+    let mut list = [questions::no_column(); 128];
+    let n = column_count(words, at);
+    for k in 0..n {
+        list[k] = column(words, numbers::past(at, 9 + 9 * k));
+    }
+    list
+}
+
+// The array of the case at a place.
+pub fn array(words: &[u64], at: usize) -> UnionArray {
+    UnionArray {
+        columns: columns(words, at),
+        fields: size_at(words, at, 2),
+        children: size_at(words, at, 3),
+        start: size_at(words, at, 4),
+        count: size_at(words, at, 5),
+        offsets_start: size_at(words, at, 6),
+        offsets_count: size_at(words, at, 7),
+        layout: layout_of(numbers::get(words, numbers::past(at, 1))),
+    }
+}
+
+pub fn locate(words: &[u64], at: usize) -> Places {
+    let ids = numbers::past(at, 9 + 9 * column_count(words, at));
+    let offsets = numbers::after(words, ids);
+    let values = numbers::after(words, offsets);
+    let masks = numbers::after(words, values);
+    let names = numbers::after(words, masks);
+    Places {
+        ids,
+        offsets,
+        values,
+        masks,
+        names,
+        calls: numbers::after(words, names),
+    }
+}

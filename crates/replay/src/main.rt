@@ -1,0 +1,20 @@
+// Replays the calls of standard input: reads union arrays and builders with calls on them, and prints the answers.
+// The form of both is told at the head of differential/src/sample.rs and of differential/src/sample/builders.rs.
+mod builders;
+mod calls;
+mod cases;
+mod describe;
+mod masks;
+mod narrow;
+mod numbers;
+mod print;
+mod slots;
+mod whole;
+
+fn main() {
+    let mut text = [0u8; 262144];
+    let mut words = [0u64; 65536];
+    let n = io::read_full(0, &mut text);
+    numbers::parse(&text[..n], &mut words);
+    cases::run(&words);
+}
