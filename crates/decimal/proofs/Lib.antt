@@ -1,0 +1,6 @@
+pub mod DigitLaws
+pub mod IntegerLaws
+pub mod DivisionLaws
+pub mod FloatLaws
+pub mod NearestLaws
+pub mod TextLaws

@@ -1,0 +1,99 @@
+// Integers and bits as text.
+ghost use mathlib.Core.Path.{_≡_};
+ghost use mathlib.Core.List.{_∷_, _++_};
+ghost use Prim.Native.Nat.{_+_, _-_, _*_, _<_, _≤_};
+ghost use lib.ListN.{length, take, drop};
+ghost use Rattle.decimal.specs.Text.{glyphOf, lastDigits, Fewest, Numeral, IntegerText};
+ghost use Rattle.decimal.specs.Written.{WrittenAt};
+
+// How many decimal digits a number has.
+fn places(n: u64) -> usize
+    ensures { λ r. ⌜ Fewest n r ⌝ }
+{
+    let mut k: usize = 1;
+    let mut rest = n / 10;
+    while rest > 0 {
+        rest = rest / 10;
+        k = k + 1;
+    }
+    k
+}
+
+// A digit's byte.
+fn glyph(d: u64) -> u8
+    requires { ⌜ d < 16 ⌝ }
+    ensures { λ r. ⌜ r ≡ glyphOf d ⌝ }
+{
+    if d < 10 { 48 + d as u8 } else { 87 + d as u8 }
+}
+
+// Puts the last `count` digits of n in from place `at` on.
+fn spell(n: u64, base: u64, at: usize, count: usize, out: &mut [u8])
+    requires { ⌜ (0 < base) × (base ≤ 16) × (at + count ≤ length (now out)) ⌝ }
+    ensures { λ _. ⌜ now (out .exit) ≡ take at (now (out .entry)) ++ (lastDigits base count n ++ drop (at + count) (now (out .entry))) ⌝ }
+{
+    let mut rest = n;
+    let mut left = count;
+    while left > 0 {
+        left = left - 1;
+        let place = at + left;
+        out[place] = glyph(rest % base);
+        rest = rest / base;
+    }
+}
+
+// Puts a number's decimal digits in from place `at` on; answers where they end.
+fn write_from(n: u64, at: usize, out: &mut [u8]) -> usize
+    requires { ⌜ at + 20 ≤ length (now out) ⌝ }
+    ensures { λ r. ⌜ WrittenAt n at (now (out .entry)) (now (out .exit)) r ⌝ }
+{
+    let count = places(n);
+    spell(n, 10, at, count, out);
+    at + count
+}
+
+// Puts a number's decimal digits at the start of `out`; answers how many there are.
+pub fn write_natural(n: u64, out: &mut [u8]) -> usize
+    requires { ⌜ 20 ≤ length (now out) ⌝ }
+    ensures { λ r. ⌜ (r ≤ 20) × Numeral n r (take r (now (out .exit))) ⌝ }
+{
+    write_from(n, 0, out)
+}
+
+// Puts the integer that the bits are in two's complement, at most `highest`, at the start of `out`; answers its length.
+pub fn write_integer(bits: u64, highest: u64, out: &mut [u8]) -> usize
+    requires { ⌜ (bits < 2 * highest + 2) × (2 * highest + 2 ≤ 18446744073709551616) × (21 ≤ length (now out)) ⌝ }
+    ensures { λ r. ⌜ (r ≤ 21) × IntegerText bits highest r (take r (now (out .exit))) ⌝ }
+{
+    if bits <= highest {
+        return write_from(bits, 0, out);
+    }
+    out[0] = b'-';
+    write_from((2 * highest + 1 - bits) + 1, 1, out)
+}
+
+// Puts 0x and the last `count` hexadecimal digits at the start of `out`; answers their length.
+pub fn write_hex(bits: u64, count: usize, out: &mut [u8]) -> usize
+    requires { ⌜ 2 + count ≤ length (now out) ⌝ }
+    ensures { λ r. ⌜ (r ≡ 2 + count) × (take r (now (out .exit)) ≡ 48 ∷ (120 ∷ lastDigits 16 count bits)) ⌝ }
+{
+    out[0] = b'0';
+    out[1] = b'x';
+    spell(bits, 16, 2, count, out);
+    2 + count
+}
+
+// Puts n / power in from place `at` on, with k digits after the point, if there are any; answers where it ends.
+pub(crate) fn write_fixed(n: u64, k: usize, power: u64, at: usize, out: &mut [u8]) -> usize
+    requires { ⌜ (k ≤ 15) × (0 < power) × (at ≤ 1) × (37 ≤ length (now out)) ⌝ }
+    ensures { λ r. ⌜ r ≤ 37 ⌝ }
+{
+    let end = write_from(n / power, at, out);
+    if k == 0 {
+        return end;
+    }
+    out[end] = b'.';
+    let first = end + 1;
+    spell(n % power, 10, first, k, out);
+    first + k
+}

@@ -1,0 +1,50 @@
+use native.Mathlib.Omega.{arith}
+use Prim.Native.Nat.{_-_}
+use lib.ListN.{length}
+use Rattle.readings.proofs.words.skip_blanks.Statement.{statement}
+use Rattle.readings.proofs.words.skip_blanks.Tie as tie
+
+abbrev Inv-loop : tie.InvT-loop
+Inv-loop text from i₀ i = Unit {0}
+
+abbrev μ-loop : tie.MeasureT-loop
+μ-loop text from i₀ i = length text - i
+
+loop-holds : tie.Need-loop-holds Inv-loop μ-loop
+loop-holds c = tt
+
+shared-slice-read-is-blank : tie.Need-shared-slice-read-is-blank Inv-loop μ-loop
+shared-slice-read-is-blank c = omega arith
+
+is-blank-requires : tie.Need-is-blank-requires Inv-loop μ-loop
+is-blank-requires c κs = tt
+
+returns : tie.Need-returns Inv-loop μ-loop
+returns c = tt
+
+add-i : tie.Need-add-i Inv-loop μ-loop
+add-i c = omega arith
+
+loop-less : tie.Need-loop-less Inv-loop μ-loop
+loop-less c = omega arith
+
+loop-again : tie.Need-loop-again Inv-loop μ-loop
+loop-again c = tt
+
+returns-2 : tie.Need-returns-2 Inv-loop μ-loop
+returns-2 c = tt
+
+pub skip-blanks-spec : {M : Type 1} → statement M
+skip-blanks-spec =
+    tie.close
+    (tie.spec
+    Inv-loop
+    μ-loop
+    loop-holds
+    shared-slice-read-is-blank
+    is-blank-requires
+    returns
+    add-i
+    loop-less
+    loop-again
+    returns-2)

@@ -1,0 +1,39 @@
+// Reads commands from the files named as arguments, or from standard input, batches the readings and prints the answers.
+mod commands;
+mod execute;
+mod kinds;
+mod lines;
+mod masks;
+mod parse;
+mod print;
+mod run;
+mod say;
+mod state;
+mod table;
+mod words;
+
+// The answers to one file, after its name.
+fn file(i: usize) {
+    let mut path = io::buffer();
+    let n = os::arg(i, &mut path);
+    print::text(&path[..n]);
+    let fd = os::open_read(&path[..n]);
+    if fd < 0 {
+        print::text(b": cannot be opened\n");
+        return;
+    }
+    print::text(b"\n");
+    run::run(fd);
+    libc::close(fd);
+}
+
+fn main() {
+    let count = os::arg_count();
+    if count < 2 {
+        run::run(libc::STDIN_FILENO);
+        return;
+    }
+    for i in 1..count {
+        file(i);
+    }
+}
