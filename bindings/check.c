@@ -1,7 +1,7 @@
 /* Calls the functions of libunion_ffi.a from C and looks at the answers: that the structs of union.h lie in memory as the
- * archive has them, and that runs tell what single calls tell.
+ * archive has them, that runs tell what single calls tell, and that a mask marks what was missing. bindings/test runs it;
+ * by hand:
  *
- *   rt staticlib union_ffi
  *   cc -O2 -Wall bindings/check.c target/staticlib/libunion_ffi.a -o target/union_check && target/union_check
  */
 #include "union.h"
@@ -13,11 +13,19 @@
 #define COLUMNS 4
 #define MASK_WORDS (SLOTS / 64)
 
-_Static_assert(sizeof(union_column) == 40 && sizeof(union_array) == 5176, "arrays");
-_Static_assert(sizeof(union_value) == 48 && sizeof(union_child) == 48, "lookups");
-_Static_assert(sizeof(union_type_names) == 2064 && sizeof(union_slice) == 5184, "names and slices");
-_Static_assert(sizeof(union_builder) == 1064 && sizeof(union_built) == 1072, "builders");
-_Static_assert(sizeof(union_length) == 1080 && sizeof(union_finished) == 6248, "lengths and finishes");
+/* The same places as in rust/src/ffi.rs. */
+#define AT(type, field, place) (offsetof(type, field) == (place))
+_Static_assert(sizeof(union_column) == 40 && AT(union_column, slots, 24) && AT(union_column, masked, 32), "columns");
+_Static_assert(sizeof(union_array) == 5176 && AT(union_array, fields, 5120), "arrays");
+_Static_assert(AT(union_array, offsets_count, 5160) && AT(union_array, layout, 5168), "arrays");
+_Static_assert(sizeof(union_value) == 48 && AT(union_value, name, 8) && AT(union_value, missing, 44), "values");
+_Static_assert(sizeof(union_type_id) == 2 && sizeof(union_value_offset) == 16 && sizeof(union_child) == 48, "lookups");
+_Static_assert(sizeof(union_name_place) == 16 && sizeof(union_type_names) == 2064 && sizeof(union_flag) == 2, "names");
+_Static_assert(sizeof(union_slice) == 5184 && sizeof(union_part) == 24 && sizeof(union_nulls) == 16, "slices and masks");
+_Static_assert(sizeof(union_builder_column) == 8 && AT(union_builder_column, masked, 6), "builder columns");
+_Static_assert(sizeof(union_builder) == 1064 && AT(union_builder, layout, 1056), "builders");
+_Static_assert(sizeof(union_built) == 1072 && sizeof(union_length) == 1080, "appends and lengths");
+_Static_assert(sizeof(union_finished) == 6248, "finishes");
 
 static int8_t type_ids[SLOTS];
 static int32_t offsets[SLOTS];
@@ -99,6 +107,50 @@ static void single_calls(int dense) {
     EXPECT(union_array_try_new(a, LENT) == UNION_BAD_NUMBER);
 }
 
+/* Every setting and strategy that applies marks the n slots of an array that are missing, and no other. */
+static void masks_mark(union_array a, const uint8_t *missing, size_t n) {
+    const size_t costs[] = {10, 3, 2, 0};
+    for (int way = 0; way < 8; way++) {
+        uint64_t out[MASK_WORDS];
+        union_nulls m = way < 4 ? union_logical_nulls(a, costs[way], LENT, out, MASK_WORDS)
+                                : union_strategy(a, (uint8_t)(way - 1), LENT, out, MASK_WORDS);
+        size_t nulls = 0;
+        EXPECT(m.refusal == 0 || (m.refusal == 14 && way > 4));
+        for (size_t i = 0; i < n && m.refusal == 0; i++) {
+            EXPECT((m.present == 1 && (out[i / 64] >> (i % 64) & 1) == 0) == (missing[i] == 1));
+            nulls += missing[i];
+        }
+        EXPECT(m.refusal != 0 || m.nulls == nulls);
+    }
+}
+
+/* Three readings, A 7, B null, A 9, from the making to the mask. */
+static void three_readings(int dense) {
+    const uint32_t starts[] = {0, 1, 0};
+    const uint8_t sizes[] = {1, 1, 1}, kinds[] = {UNION_INT8, UNION_INT8, UNION_INT8}, present[] = {1, 0, 1};
+    const uint64_t bits[] = {7, 0, 9};
+    uint8_t refusals[] = {9, 9, 9}, missing[3];
+    int8_t ids[3];
+    uint64_t read[3], out[] = {0, 77};
+    union_built b = union_builder_appends(made(dense).builder, bytes("AB"), 2, starts, 3, sizes, 3, kinds, 3, present, 3, bits,
+                                          3, LENT, refusals, 3);
+    EXPECT(b.refusal == 0 && refusals[0] == 0 && refusals[1] == 0 && refusals[2] == 0);
+    union_finished f = union_builder_finish(b.builder, LENT);
+    EXPECT(f.refusal == 0 && f.builder.layout == UNION_SPARSE && f.builder.count == 0 && f.builder.capacity == SLOTS);
+    EXPECT(union_array_values(f.array, 0, 3, LENT, ids, 3, missing, 3, read, 3) == 0);
+    EXPECT(ids[0] == 0 && ids[1] == 1 && ids[2] == 0 && read[0] == 7 && read[1] == 0 && read[2] == 9);
+    EXPECT(missing[0] == 0 && missing[1] == 1 && missing[2] == 0);
+    for (size_t i = 0; i < 3; i++) {
+        EXPECT(union_array_value_offset(f.array, i, LENT).offset == (dense ? i / 2 : i));
+    }
+    union_nulls m = union_logical_nulls(f.array, 2, LENT, out, 2);
+    EXPECT(m.refusal == 0 && m.present == 1 && m.nulls == 1 && m.route == (dense ? 3 : 4));
+    EXPECT(out[0] == 5 && out[1] == 77);
+    EXPECT(union_logical_nulls(f.array, 5, LENT, out, 2).refusal == 12);
+    EXPECT(union_logical_nulls(f.array, 2, LENT, out, 0).refusal == 13);
+    masks_mark(f.array, missing, 3);
+}
+
 /* A run of appends, and a run of lookups of what they built. */
 static void runs(int dense) {
     static uint32_t starts[SLOTS];
@@ -137,6 +189,8 @@ static void runs(int dense) {
         EXPECT(v.refusal == 0 && v.id == ids[k] && v.missing == missing[k] && v.bits == read[k]);
     }
     EXPECT(ids[SLOTS - 8] == 55);
+    EXPECT(union_array_values(f.array, 0, SLOTS - 4, LENT, ids, SLOTS, missing, SLOTS, read, SLOTS) == 0);
+    masks_mark(f.array, missing, SLOTS - 4);
 }
 
 int main(void) {
@@ -144,6 +198,7 @@ int main(void) {
         memset(masks, 0xaa, sizeof masks);
         memset(values, 0x55, sizeof values);
         single_calls(dense);
+        three_readings(dense);
         runs(dense);
     }
     puts(failed ? "not as expected" : "as expected");

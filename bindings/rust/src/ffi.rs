@@ -1,0 +1,389 @@
+//! The structs and functions of bindings/union.h, and a safe function for each. The crate's unsafe code is all here.
+
+use crate::buffers::{Buffers, MAX_COLUMNS, NAME_BYTES};
+use std::mem::{offset_of, size_of};
+
+// ---------------------------------------------------------------------------------------------------------- structs
+
+/// An entry of the column list.
+#[repr(C)]
+#[derive(Clone, Copy, Default)]
+pub struct Column {
+    pub values: usize,
+    pub mask: usize,
+    pub name: usize,
+    pub slots: u32,
+    pub bit: u8,
+    pub size: u8,
+    pub id: i8,
+    pub kind: u8,
+    pub masked: u8,
+}
+
+/// A union array. Entries past `fields` may hold anything.
+#[repr(C)]
+#[derive(Clone, Copy)]
+pub struct Array {
+    pub columns: [Column; MAX_COLUMNS],
+    pub fields: usize,
+    pub children: usize,
+    pub start: usize,
+    pub count: usize,
+    pub offsets_start: usize,
+    pub offsets_count: usize,
+    pub layout: u8,
+}
+
+#[repr(C)]
+#[derive(Clone, Copy)]
+pub struct Value {
+    pub bits: u64,
+    pub name: [u8; NAME_BYTES],
+    pub size: u8,
+    pub refusal: u8,
+    pub id: i8,
+    pub kind: u8,
+    pub missing: u8,
+}
+
+#[repr(C)]
+#[derive(Clone, Copy)]
+pub struct TypeId {
+    pub refusal: u8,
+    pub id: i8,
+}
+
+#[repr(C)]
+#[derive(Clone, Copy)]
+pub struct ValueOffset {
+    pub offset: usize,
+    pub refusal: u8,
+}
+
+#[repr(C)]
+#[derive(Clone, Copy)]
+pub struct Child {
+    pub column: Column,
+    pub refusal: u8,
+}
+
+#[repr(C)]
+#[derive(Clone, Copy)]
+pub struct NamePlace {
+    pub start: usize,
+    pub size: u8,
+}
+
+#[repr(C)]
+#[derive(Clone, Copy)]
+pub struct TypeNames {
+    pub names: [NamePlace; MAX_COLUMNS],
+    pub count: usize,
+    pub refusal: u8,
+}
+
+#[repr(C)]
+#[derive(Clone, Copy)]
+pub struct Flag {
+    pub refusal: u8,
+    pub holds: u8,
+}
+
+#[repr(C)]
+#[derive(Clone, Copy)]
+pub struct Slice {
+    pub array: Array,
+    pub refusal: u8,
+}
+
+#[repr(C)]
+#[derive(Clone, Copy)]
+pub struct Part {
+    pub start: usize,
+    pub count: usize,
+    pub refusal: u8,
+}
+
+#[repr(C)]
+#[derive(Clone, Copy)]
+pub struct Nulls {
+    pub nulls: usize,
+    pub refusal: u8,
+    pub route: u8,
+    pub present: u8,
+}
+
+#[repr(C)]
+#[derive(Clone, Copy, Debug, PartialEq)]
+pub struct BuilderColumn {
+    pub slots: u32,
+    pub size: u8,
+    pub kind: u8,
+    pub masked: u8,
+}
+
+/// A builder. Entries past `count` may hold anything.
+#[repr(C)]
+#[derive(Clone, Copy)]
+pub struct Builder {
+    pub columns: [BuilderColumn; MAX_COLUMNS],
+    pub capacity: usize,
+    pub limit: usize,
+    pub len: usize,
+    pub count: usize,
+    pub layout: u8,
+}
+
+#[repr(C)]
+#[derive(Clone, Copy)]
+pub struct Built {
+    pub builder: Builder,
+    pub refusal: u8,
+}
+
+#[repr(C)]
+#[derive(Clone, Copy)]
+pub struct Length {
+    pub builder: Builder,
+    pub len: usize,
+    pub refusal: u8,
+}
+
+#[repr(C)]
+#[derive(Clone, Copy)]
+pub struct Finished {
+    pub builder: Builder,
+    pub array: Array,
+    pub refusal: u8,
+}
+
+// The places that bindings/check.c asserts of the header.
+const _: () = assert!(size_of::<Column>() == 40 && offset_of!(Column, slots) == 24 && offset_of!(Column, masked) == 32);
+const _: () = assert!(size_of::<Array>() == 5176 && offset_of!(Array, fields) == 5120);
+const _: () = assert!(offset_of!(Array, offsets_count) == 5160 && offset_of!(Array, layout) == 5168);
+const _: () = assert!(size_of::<Value>() == 48 && offset_of!(Value, name) == 8 && offset_of!(Value, missing) == 44);
+const _: () = assert!(size_of::<TypeId>() == 2 && size_of::<ValueOffset>() == 16 && size_of::<Child>() == 48);
+const _: () = assert!(size_of::<NamePlace>() == 16 && size_of::<TypeNames>() == 2064 && size_of::<Flag>() == 2);
+const _: () = assert!(size_of::<Slice>() == 5184 && size_of::<Part>() == 24 && size_of::<Nulls>() == 16);
+const _: () = assert!(size_of::<BuilderColumn>() == 8 && offset_of!(BuilderColumn, masked) == 6);
+const _: () = assert!(size_of::<Builder>() == 1064 && offset_of!(Builder, layout) == 1056);
+const _: () = assert!(size_of::<Built>() == 1072 && size_of::<Length>() == 1080 && size_of::<Finished>() == 6248);
+
+// -------------------------------------------------------------------------------------------------------- functions
+
+/// Declares functions over lent memory, read (`const`) or written (`mut`). A slice is a pointer and a length; `lent`
+/// stands for the five slices of lent memory, a slice after it is an output.
+macro_rules! functions {
+    ($($access:tt $name:ident($($argument:ident: $type:ty),*; lent $(; $out:ty)*) -> $answer:ty;)*) => {
+        unsafe extern "C" {$(
+            fn $name(
+                $($argument: $type,)*
+                type_ids: *$access i8, type_ids_len: usize, offsets: *$access i32, offsets_len: usize,
+                values: *$access u64, values_len: usize, masks: *$access u64, masks_len: usize,
+                names: *$access u8, names_len: usize $(, _: *mut $out, _: usize)*
+            ) -> $answer;
+        )*}
+    };
+}
+
+functions! {
+    const union_array_try_new(array: Array; lent) -> u8;
+    const union_array_value(array: Array, i: usize; lent) -> Value;
+    const union_array_type_id(array: Array, i: usize; lent) -> TypeId;
+    const union_array_value_offset(array: Array, i: usize; lent) -> ValueOffset;
+    const union_array_child(array: Array, id: i8; lent) -> Child;
+    const union_array_type_names(array: Array; lent) -> TypeNames;
+    const union_array_is_dense(array: Array; lent) -> Flag;
+    const union_array_is_nullable(array: Array; lent) -> Flag;
+    const union_array_type_ids(array: Array; lent) -> Part;
+    const union_array_slice(array: Array, o: usize, n: usize; lent) -> Slice;
+    const union_logical_nulls(array: Array, cost: usize; lent; u64) -> Nulls;
+    const union_strategy(array: Array, strategy: u8; lent; u64) -> Nulls;
+    const union_array_values(array: Array, first: usize, n: usize; lent; i8; u8; u64) -> u8;
+    const union_builder_new_dense(limit: usize; lent) -> Built;
+    const union_builder_new_sparse(limit: usize; lent) -> Built;
+    const union_builder_with_capacity_dense(capacity: usize, limit: usize; lent) -> Built;
+    const union_builder_with_capacity_sparse(capacity: usize, limit: usize; lent) -> Built;
+    const union_builder_finish_cloned(builder: Builder; lent) -> Finished;
+    const union_builder_finish(builder: Builder; lent) -> Finished;
+    mut union_builder_append(builder: Builder, name: *const u8, name_len: usize, kind: u8, bits: u64; lent) -> Built;
+    mut union_builder_append_null(builder: Builder, name: *const u8, name_len: usize, kind: u8; lent) -> Built;
+    mut union_builder_appends(
+        builder: Builder, text: *const u8, text_len: usize, starts: *const u32, starts_len: usize, sizes: *const u8,
+        sizes_len: usize, kinds: *const u8, kinds_len: usize, present: *const u8, present_len: usize,
+        bits: *const u64, bits_len: usize; lent; u8
+    ) -> Built;
+}
+
+unsafe extern "C" {
+    fn union_builder_len(builder: Builder) -> Length;
+}
+
+/// The arguments of a call, with the pointers and lengths of lent memory that it reads and of its outputs.
+macro_rules! read {
+    ($name:ident($($argument:expr),*; $lent:ident $(; $out:ident)*)) => {
+        $name(
+            $($argument,)*
+            $lent.type_ids.as_ptr(), $lent.type_ids.len(), $lent.offsets.as_ptr(), $lent.offsets.len(),
+            $lent.values.as_ptr(), $lent.values.len(), $lent.masks.as_ptr(), $lent.masks.len(),
+            $lent.names.as_ptr(), $lent.names.len() $(, $out.as_mut_ptr(), $out.len())*
+        )
+    };
+}
+
+/// The same, with lent memory that the call writes.
+macro_rules! written {
+    ($name:ident($($argument:expr),*; $lent:ident $(; $out:ident)*)) => {
+        $name(
+            $($argument,)*
+            $lent.type_ids.as_mut_ptr(), $lent.type_ids.len(), $lent.offsets.as_mut_ptr(), $lent.offsets.len(),
+            $lent.values.as_mut_ptr(), $lent.values.len(), $lent.masks.as_mut_ptr(), $lent.masks.len(),
+            $lent.names.as_mut_ptr(), $lent.names.len() $(, $out.as_mut_ptr(), $out.len())*
+        )
+    };
+}
+
+// ---------------------------------------------------------------------------------------------- calls on an array
+
+pub fn array_try_new(array: &Array, lent: &Buffers) -> u8 {
+    // SAFETY: each pointer is that of a slice of the length beside it, borrowed for the call.
+    unsafe { read!(union_array_try_new(*array; lent)) }
+}
+
+pub fn array_value(array: &Array, i: usize, lent: &Buffers) -> Value {
+    // SAFETY: each pointer is that of a slice of the length beside it, borrowed for the call.
+    unsafe { read!(union_array_value(*array, i; lent)) }
+}
+
+pub fn array_type_id(array: &Array, i: usize, lent: &Buffers) -> TypeId {
+    // SAFETY: each pointer is that of a slice of the length beside it, borrowed for the call.
+    unsafe { read!(union_array_type_id(*array, i; lent)) }
+}
+
+pub fn array_value_offset(array: &Array, i: usize, lent: &Buffers) -> ValueOffset {
+    // SAFETY: each pointer is that of a slice of the length beside it, borrowed for the call.
+    unsafe { read!(union_array_value_offset(*array, i; lent)) }
+}
+
+pub fn array_child(array: &Array, id: i8, lent: &Buffers) -> Child {
+    // SAFETY: each pointer is that of a slice of the length beside it, borrowed for the call.
+    unsafe { read!(union_array_child(*array, id; lent)) }
+}
+
+pub fn array_type_names(array: &Array, lent: &Buffers) -> TypeNames {
+    // SAFETY: each pointer is that of a slice of the length beside it, borrowed for the call.
+    unsafe { read!(union_array_type_names(*array; lent)) }
+}
+
+pub fn array_is_dense(array: &Array, lent: &Buffers) -> Flag {
+    // SAFETY: each pointer is that of a slice of the length beside it, borrowed for the call.
+    unsafe { read!(union_array_is_dense(*array; lent)) }
+}
+
+pub fn array_is_nullable(array: &Array, lent: &Buffers) -> Flag {
+    // SAFETY: each pointer is that of a slice of the length beside it, borrowed for the call.
+    unsafe { read!(union_array_is_nullable(*array; lent)) }
+}
+
+pub fn array_type_ids(array: &Array, lent: &Buffers) -> Part {
+    // SAFETY: each pointer is that of a slice of the length beside it, borrowed for the call.
+    unsafe { read!(union_array_type_ids(*array; lent)) }
+}
+
+pub fn array_slice(array: &Array, o: usize, n: usize, lent: &Buffers) -> Slice {
+    // SAFETY: each pointer is that of a slice of the length beside it, borrowed for the call.
+    unsafe { read!(union_array_slice(*array, o, n; lent)) }
+}
+
+pub fn logical_nulls(array: &Array, cost: usize, lent: &Buffers, out: &mut [u64]) -> Nulls {
+    // SAFETY: each pointer is that of a slice of the length beside it, borrowed for the call; `out` mutably.
+    unsafe { read!(union_logical_nulls(*array, cost; lent; out)) }
+}
+
+pub fn strategy(array: &Array, strategy: u8, lent: &Buffers, out: &mut [u64]) -> Nulls {
+    // SAFETY: each pointer is that of a slice of the length beside it, borrowed for the call; `out` mutably.
+    unsafe { read!(union_strategy(*array, strategy; lent; out)) }
+}
+
+/// The outputs of a run of lookups.
+pub struct Outputs<'a> {
+    pub ids: &'a mut [i8],
+    pub missing: &'a mut [u8],
+    pub bits: &'a mut [u64],
+}
+
+pub fn array_values(array: &Array, first: usize, n: usize, lent: &Buffers, outputs: Outputs<'_>) -> u8 {
+    let Outputs { ids, missing, bits } = outputs;
+    // SAFETY: each pointer is that of a slice of the length beside it, borrowed for the call; outputs mutably.
+    unsafe { read!(union_array_values(*array, first, n; lent; ids; missing; bits)) }
+}
+
+// ------------------------------------------------------------------------------------ makings, calls on a builder
+
+pub fn builder_new_dense(limit: usize, lent: &Buffers) -> Built {
+    // SAFETY: each pointer is that of a slice of the length beside it, borrowed for the call.
+    unsafe { read!(union_builder_new_dense(limit; lent)) }
+}
+
+pub fn builder_new_sparse(limit: usize, lent: &Buffers) -> Built {
+    // SAFETY: each pointer is that of a slice of the length beside it, borrowed for the call.
+    unsafe { read!(union_builder_new_sparse(limit; lent)) }
+}
+
+pub fn builder_with_capacity_dense(capacity: usize, limit: usize, lent: &Buffers) -> Built {
+    // SAFETY: each pointer is that of a slice of the length beside it, borrowed for the call.
+    unsafe { read!(union_builder_with_capacity_dense(capacity, limit; lent)) }
+}
+
+pub fn builder_with_capacity_sparse(capacity: usize, limit: usize, lent: &Buffers) -> Built {
+    // SAFETY: each pointer is that of a slice of the length beside it, borrowed for the call.
+    unsafe { read!(union_builder_with_capacity_sparse(capacity, limit; lent)) }
+}
+
+pub fn builder_append(builder: &Builder, name: &[u8], kind: u8, bits: u64, lent: &mut Buffers) -> Built {
+    // SAFETY: each pointer is that of a slice of the length beside it, borrowed for the call; `lent` mutably.
+    unsafe { written!(union_builder_append(*builder, name.as_ptr(), name.len(), kind, bits; lent)) }
+}
+
+pub fn builder_append_null(builder: &Builder, name: &[u8], kind: u8, lent: &mut Buffers) -> Built {
+    // SAFETY: each pointer is that of a slice of the length beside it, borrowed for the call; `lent` mutably.
+    unsafe { written!(union_builder_append_null(*builder, name.as_ptr(), name.len(), kind; lent)) }
+}
+
+/// A run of readings: reading k's name is the `sizes[k]` bytes of `text` from `starts[k]` on.
+#[derive(Default)]
+pub struct Readings {
+    pub text: Vec<u8>,
+    pub starts: Vec<u32>,
+    pub sizes: Vec<u8>,
+    pub kinds: Vec<u8>,
+    pub present: Vec<u8>,
+    pub bits: Vec<u64>,
+}
+
+pub fn builder_appends(builder: &Builder, run: &Readings, lent: &mut Buffers, refusals: &mut [u8]) -> Built {
+    // SAFETY: each pointer is that of a slice of the length beside it, borrowed for the call; `lent` and `refusals`
+    // mutably.
+    unsafe {
+        written!(union_builder_appends(
+            *builder, run.text.as_ptr(), run.text.len(), run.starts.as_ptr(), run.starts.len(), run.sizes.as_ptr(),
+            run.sizes.len(), run.kinds.as_ptr(), run.kinds.len(), run.present.as_ptr(), run.present.len(),
+            run.bits.as_ptr(), run.bits.len(); lent; refusals
+        ))
+    }
+}
+
+pub fn builder_len(builder: &Builder) -> Length {
+    // SAFETY: no memory is lent.
+    unsafe { union_builder_len(*builder) }
+}
+
+pub fn builder_finish_cloned(builder: &Builder, lent: &Buffers) -> Finished {
+    // SAFETY: each pointer is that of a slice of the length beside it, borrowed for the call.
+    unsafe { read!(union_builder_finish_cloned(*builder; lent)) }
+}
+
+pub fn builder_finish(builder: &Builder, lent: &Buffers) -> Finished {
+    // SAFETY: each pointer is that of a slice of the length beside it, borrowed for the call.
+    unsafe { read!(union_builder_finish(*builder; lent)) }
+}
