@@ -1,4 +1,4 @@
--- Validity bits in 64-bit words (Format, "Validity bitmaps"; document 01, "Bits below the union"). A text in quotes is 01's.
+-- Validity bits in 64-bit words (Format, validity bitmaps; document 01, "Bits below the union"). A text in quotes is 01's.
 use mathlib.Core.Bool.{Bool, true, false, cond, not, _&&_}
 use mathlib.Core.List.{List}
 use Prim.Native.Nat.{ℕ, zero, suc, _+_, _*_, _/_, _%_, _^_}

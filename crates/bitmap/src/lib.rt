@@ -60,7 +60,7 @@ pub fn set_bit(words: &mut [u64], word: usize, bit: usize, v: bool)
 }
 
 // The 64 bits that start at bit `off` of a word; past the words they are 0.
-pub fn joined(words: &[u64], word: usize, off: usize) -> u64
+fn joined(words: &[u64], word: usize, off: usize) -> u64
     requires { ⌜ (off < 64) × (word < length (now words)) ⌝ }
     ensures { λ r. ⌜ r ≡ pack 64 (λ j. bitAt (now (words .entry)) (64 * word + off + j)) ⌝ }
 {
@@ -90,15 +90,15 @@ pub fn chunk(words: &[u64], word: usize, bit: usize, len: usize, k: usize) -> u6
 
 // The count before any word.
 pub fn empty_count() -> NullCount
-    ensures { λ r. ⌜ r .nulls ≡ 0 ⌝ }
+    ensures { λ r. ⌜ r ≡ record { nulls = 0 } ⌝ }
 {
     NullCount { nulls: 0 }
 }
 
 // The count and the clear bits among the n low bits of a word, whose later bits are 0.
-pub fn counted(c: NullCount, word: u64, n: usize) -> NullCount
+fn counted(c: NullCount, word: u64, n: usize) -> NullCount
     requires { ⌜ (n ≤ 64) × (word < 2 ^ n) × (c .nulls + n < 2 ^ 64) ⌝ }
-    ensures { λ r. ⌜ r .nulls ≡ c .nulls + clearIn word n ⌝ }
+    ensures { λ r. ⌜ r ≡ record { nulls = c .nulls + clearIn word n } ⌝ }
 {
     let set = u64::count_ones(word) as usize;
     NullCount {
@@ -109,7 +109,7 @@ pub fn counted(c: NullCount, word: u64, n: usize) -> NullCount
 // How many bits of a mask of `len` bits are clear.
 pub fn null_count(words: &[u64], word: usize, bit: usize, len: usize) -> NullCount
     requires { ⌜ (64 * word + bit + len ≤ 64 * length (now words)) × (bit + len < 2 ^ 63) ⌝ }
-    ensures { λ r. ⌜ r .nulls ≡ nullsOf (now (words .entry)) (64 * word + bit) len ⌝ }
+    ensures { λ r. ⌜ r ≡ record { nulls = nullsOf (now (words .entry)) (64 * word + bit) len } ⌝ }
 {
     let mut c = empty_count();
     let mut k: usize = 0;

@@ -13,7 +13,7 @@ use lib.Seq.{drop-cons}
 use borrow.Author.Tests.{lt-ltb, le-ltb, le-leb, lt-leb, ltb-true, ltb-false, leb-true, leb-false}
 use Rattle.decimal.specs.declared.Bits.{Bits}
 use Rattle.decimal.specs.declared.Bits.the-variants.{Of, Refused}
-use Rattle.decimal.specs.Digits.{digitOf, areDigits, valueOf, numberOf}
+use Rattle.decimal.specs.Digits.{digitOf, areDigits, fromDigits, numberOf}
 
 module _ (b : ℕ) where
   pub other-1 : b < 48 → 16 ≡ digitOf b
@@ -52,8 +52,8 @@ module _ (b : ℕ) where
 -- ---- a row of digits, from its first byte on
 
 -- a number never falls as digits follow it
-value-ge : (base n : ℕ) (bs : List ℕ) → 0 < base → n ≤ valueOf base n bs
-unfolding valueOf
+value-ge : (base n : ℕ) (bs : List ℕ) → 0 < base → n ≤ fromDigits base n bs
+unfolding fromDigits
 value-ge base n [] h = omega arith
 value-ge base n (b ∷ bs) h =
     let g = value-ge base (base * n + digitOf b) bs h in
@@ -64,9 +64,9 @@ value-ge base n (b ∷ bs) h =
 past : (base n most : ℕ) (bs : List ℕ) → 0 < base → most < n → numberOf base n bs most ≡ Refused
 unfolding numberOf
 past base n most bs h k =
-    rw (lt-leb (valueOf base n bs) most (let g = value-ge base n bs h in omega arith)) (never (areDigits base bs))
+    rw (lt-leb (fromDigits base n bs) most (let g = value-ge base n bs h in omega arith)) (never (areDigits base bs))
   where
-    never : (t : Bool) → cond (t && false) (Of (valueOf base n bs)) Refused ≡ Refused
+    never : (t : Bool) → cond (t && false) (Of (fromDigits base n bs)) Refused ≡ Refused
     never true = refl
     never false = refl
 
@@ -89,7 +89,7 @@ module _ (base n b most : ℕ) (bs : List ℕ) where
 
   -- a digit, after which the number is the rest's
   pub number-digit : digitOf b < base → numberOf base n (b ∷ bs) most ≡ numberOf base (base * n + digitOf b) bs most
-  unfolding numberOf areDigits valueOf
+  unfolding numberOf areDigits fromDigits
   number-digit h = rw (lt-ltb (digitOf b) base h)
 
   -- a digit that takes the number past the most
@@ -97,7 +97,7 @@ module _ (base n b most : ℕ) (bs : List ℕ) where
   number-above p h k = number-digit h ∙ past base (base * n + digitOf b) most bs p k
 
 pub number-none : (base n most : ℕ) → n ≤ most → numberOf base n [] most ≡ Of n
-unfolding numberOf areDigits valueOf
+unfolding numberOf areDigits fromDigits
 number-none base n most h = rw (le-leb n most h)
 
 -- ---- a turn of the loop: n so far, byte i is next, and `whole` is what is answered in the end
@@ -128,7 +128,7 @@ turn-end base n i most text whole h k left = sym (left ∙ rw (drop-of-length-le
 -- ---- a row of digits in two parts
 
 none-is : (base n most k : ℕ) → numberOf base n [] most ≡ Of k → n ≡ k
-unfolding numberOf areDigits valueOf
+unfolding numberOf areDigits fromDigits
 none-is base n most k = go (leb n most)
   where
     go : (t : Bool) → cond t (Of n) Refused ≡ Of k → n ≡ k
@@ -136,7 +136,7 @@ none-is base n most k = go (leb n most)
     go false e = let z : _≡_ {A = ℕ} 0 1 = cc in absurd (omega arith)
 
 none-refused : (base n most : ℕ) → numberOf base n [] most ≡ Refused → most < n
-unfolding numberOf areDigits valueOf
+unfolding numberOf areDigits fromDigits
 none-refused base n most = go (leb n most) (leb-false n most)
   where
     go : (t : Bool) → (t ≡ false → most < n) → cond t (Of n) Refused ≡ Refused → most < n
@@ -173,9 +173,9 @@ number-never base n most (x ∷ xs) ys p e = go (λ g. number-never base (base *
 -- what is answered is at most the most
 pub number-most : (base n most k : ℕ) (xs : List ℕ) → numberOf base n xs most ≡ Of k → k ≤ most
 unfolding numberOf
-number-most base n most k xs = go (areDigits base xs) (leb (valueOf base n xs) most) (leb-true (valueOf base n xs) most)
+number-most base n most k xs = go (areDigits base xs) (leb (fromDigits base n xs) most) (leb-true (fromDigits base n xs) most)
   where
-    go : (t u : Bool) → (u ≡ true → valueOf base n xs ≤ most) → cond (t && u) (Of (valueOf base n xs)) Refused ≡ Of k → k ≤ most
-    go true true h e = let v : valueOf base n xs ≡ k = cc in let l = h refl in omega arith
+    go : (t u : Bool) → (u ≡ true → fromDigits base n xs ≤ most) → cond (t && u) (Of (fromDigits base n xs)) Refused ≡ Of k → k ≤ most
+    go true true h e = let v : fromDigits base n xs ≡ k = cc in let l = h refl in omega arith
     go true false h e = let z : _≡_ {A = ℕ} 0 1 = cc in absurd (omega arith)
     go false u h e = let z : _≡_ {A = ℕ} 0 1 = cc in absurd (omega arith)

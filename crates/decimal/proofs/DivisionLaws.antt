@@ -2,7 +2,7 @@
 use mathlib.Core.Path.{_≡_, refl, sym, ap, _∙_, subst}
 use mathlib.Core.Bool.{not}
 use Prim.Native.Nat.{ℕ, suc, _+_, _-_, _*_, _/_, _%_, _^_, _<_, _≤_, compare, Ordering, Ordering·lt, Ordering·eq, Ordering·gt}
-use native.Mathlib.Nat.{le-antisymm, mul-comm, mul-assoc, mul-left-comm, mul-right-comm, mul-add, mul-suc, one-mul, mul-one, mul-le-mul-left, mul-le-mul-right, mul-lt-mul-of-pos-left, pow-suc, pow-succ', div-add-mod, div-add-mod', mod-lt, mod-eq-of-lt, div-eq-of-lt, mul-add-div, div-div-eq-div-mul, add-mul-mod-self-left, add-zero}
+use native.Mathlib.Nat.{le-antisymm, mul-comm, mul-assoc, mul-left-comm, mul-add, mul-suc, one-mul, mul-one, mul-le-mul-left, mul-le-mul-right, pow-suc, pow-succ', div-add-mod, mod-lt, mod-eq-of-lt, div-eq-of-lt, mul-add-div, div-div-eq-div-mul, add-mul-mod-self-left, add-zero}
 use native.Mathlib.Numerals.{add-one}
 use native.Mathlib.Omega.{arith}
 use lib.Dec.{T, isLe, isEq, eqb, leb→le, nleb→lt, eqb→eq, eqb-refl}

@@ -2,11 +2,11 @@
 use mathlib.Core.Path.{_≡_, refl, sym, ap, _∙_}
 use mathlib.Core.Bool.{Bool, true, false, cond}
 use mathlib.Core.List.{List, [], _∷_, _++_}
-use Prim.Native.Nat.{ℕ, zero, suc, _+_, _-_, _*_, _^_, _<_, _≤_}
+use Prim.Native.Nat.{ℕ, suc, _+_, _-_, _*_, _^_, _<_, _≤_}
 use native.Mathlib.Nat.{pow-suc, pow-le-pow-right}
 use native.Mathlib.Numerals.{add-one}
 use native.Mathlib.Omega.{arith}
-use lib.Dec.{eqb, ltb}
+use lib.Dec.{eqb}
 use lib.ListN.{length, take, drop, getD, drop-of-length-le, length-take}
 use lib.Seq.{drop-cons, take-length}
 use lib.Ieee.{toBits, round}
@@ -16,18 +16,18 @@ use Rattle.decimal.specs.declared.Bits.the-variants.{Of, Refused}
 use Rattle.decimal.specs.declared.Format.{Format}
 use Rattle.decimal.specs.Digits.{numberOf}
 use Rattle.decimal.specs.Integers.{isHex, hexOf}
-use Rattle.decimal.specs.Floats.{ieee, hexDigits, before, after, nearestBits, fractionOf, sizeOf, floatOf}
+use Rattle.decimal.specs.Floats.{ieee, hexDigits, beforePoint, afterPoint, nearestBits, fractionOf, sizeOf, floatOf}
 use Rattle.decimal.proofs.DigitLaws.{number-then, number-never}
 use Rattle.decimal.proofs.IntegerLaws.{tail-is}
 
 -- ---- the first point, from byte i on
 
-pub point-here : (xs : List ℕ) (i : ℕ) → i < length xs → getD xs i 0 ≡ 46 → length (before (drop i xs)) ≡ 0
-unfolding before
+pub point-here : (xs : List ℕ) (i : ℕ) → i < length xs → getD xs i 0 ≡ 46 → length (beforePoint (drop i xs)) ≡ 0
+unfolding beforePoint
 point-here xs i h e = rw (drop-cons xs i 0 h, eq-eqb (getD xs i 0) 46 e)
 
-pub point-later : (xs : List ℕ) (i : ℕ) → i < length xs → (getD xs i 0 ≡ 46 → ⊥) → length (before (drop i xs)) ≡ suc (length (before (drop (suc i) xs)))
-unfolding before
+pub point-later : (xs : List ℕ) (i : ℕ) → i < length xs → (getD xs i 0 ≡ 46 → ⊥) → length (beforePoint (drop i xs)) ≡ suc (length (beforePoint (drop (suc i) xs)))
+unfolding beforePoint
 point-later xs i h e = rw (drop-cons xs i 0 h, ne-eqb (getD xs i 0) 46 e)
 
 -- ---- powers of ten
@@ -38,8 +38,8 @@ ten-more k = rw (add-one) (sym (pow-suc 10 k))
 pub ten-small : (k : ℕ) → k ≤ 15 → 10 ^ k ≤ 10 ^ 15
 ten-small k h = pow-le-pow-right (omega arith) h
 
-pub point-end : (xs : List ℕ) (i : ℕ) → length xs ≤ i → length (before (drop i xs)) ≡ 0
-unfolding before
+pub point-end : (xs : List ℕ) (i : ℕ) → length xs ≤ i → length (beforePoint (drop i xs)) ≡ 0
+unfolding beforePoint
 point-end xs i h = rw (drop-of-length-le xs h)
 
 -- ---- the digits before the point and after it
@@ -81,42 +81,42 @@ module _ (f : Format) (s : Bool) (xs ys : List ℕ) where
 
 -- ---- the two parts of a text
 
-before-take : (xs : List ℕ) → take (length (before xs)) xs ≡ before xs
-unfolding before
+before-take : (xs : List ℕ) → take (length (beforePoint xs)) xs ≡ beforePoint xs
+unfolding beforePoint
 before-take [] = refl
 before-take (x ∷ xs) = go (before-take xs) (eqb x 46)
   where
-    go : take (length (before xs)) xs ≡ before xs → (t : Bool) → take (length (cond t [] (x ∷ before xs))) (x ∷ xs) ≡ cond t [] (x ∷ before xs)
+    go : take (length (beforePoint xs)) xs ≡ beforePoint xs → (t : Bool) → take (length (cond t [] (x ∷ beforePoint xs))) (x ∷ xs) ≡ cond t [] (x ∷ beforePoint xs)
     go ih true = refl
     go ih false = ap (λ (l : List ℕ). x ∷ l) ih
 
-after-drop : (xs : List ℕ) → drop (suc (length (before xs))) xs ≡ after xs
-unfolding before after
+after-drop : (xs : List ℕ) → drop (suc (length (beforePoint xs))) xs ≡ afterPoint xs
+unfolding beforePoint afterPoint
 after-drop [] = refl
 after-drop (x ∷ xs) = go (after-drop xs) (eqb x 46)
   where
-    go : drop (suc (length (before xs))) xs ≡ after xs → (t : Bool) → drop (suc (length (cond t [] (x ∷ before xs)))) (x ∷ xs) ≡ cond t xs (after xs)
+    go : drop (suc (length (beforePoint xs))) xs ≡ afterPoint xs → (t : Bool) → drop (suc (length (cond t [] (x ∷ beforePoint xs)))) (x ∷ xs) ≡ cond t xs (afterPoint xs)
     go ih true = refl
     go ih false = ih
 
-pub before-le : (xs : List ℕ) → length (before xs) ≤ length xs
-before-le xs = let e : length (take (length (before xs)) xs) ≡ length (before xs) = ap length (before-take xs) in omega (arith, simp length-take at e)
+pub before-le : (xs : List ℕ) → length (beforePoint xs) ≤ length xs
+before-le xs = let e : length (take (length (beforePoint xs)) xs) ≡ length (beforePoint xs) = ap length (before-take xs) in omega (arith, simp length-take at e)
 
-module _ (f : Format) (s : Bool) (xs : List ℕ) (p : ℕ) (place : p ≡ length (before xs)) where
+module _ (f : Format) (s : Bool) (xs : List ℕ) (p : ℕ) (place : p ≡ length (beforePoint xs)) where
   pub size-whole : p ≡ length xs → fractionOf f s xs (take (length xs - p) (drop p xs)) ≡ sizeOf f s xs
   unfolding sizeOf
   size-whole h =
-      let b : before xs ≡ xs = sym (before-take xs) ∙ ap (λ (x : ℕ). take x xs) (sym place ∙ h) ∙ take-length xs in
-      let a : after xs ≡ [] = sym (after-drop xs) ∙ drop-of-length-le xs {i = suc (length (before xs))} (omega arith) in
+      let b : beforePoint xs ≡ xs = sym (before-take xs) ∙ ap (λ (x : ℕ). take x xs) (sym place ∙ h) ∙ take-length xs in
+      let a : afterPoint xs ≡ [] = sym (after-drop xs) ∙ drop-of-length-le xs {i = suc (length (beforePoint xs))} (omega arith) in
       let d : take (length xs - p) (drop p xs) ≡ [] = tail-is xs p ∙ drop-of-length-le xs {i = p} (omega arith) in
-      ap (λ (l : List ℕ). fractionOf f s xs l) (d ∙ sym a) ∙ ap (λ (l : List ℕ). fractionOf f s l (after xs)) (sym b)
+      ap (λ (l : List ℕ). fractionOf f s xs l) (d ∙ sym a) ∙ ap (λ (l : List ℕ). fractionOf f s l (afterPoint xs)) (sym b)
 
   pub size-parts : fractionOf f s (take p xs) (take (length xs - (p + 1)) (drop (p + 1) xs)) ≡ sizeOf f s xs
   unfolding sizeOf
   size-parts =
-      let b : take p xs ≡ before xs = ap (λ (x : ℕ). take x xs) place ∙ before-take xs in
-      let a : take (length xs - (p + 1)) (drop (p + 1) xs) ≡ after xs = tail-is xs (p + 1) ∙ ap (λ (x : ℕ). drop x xs) (add-one p ∙ ap suc place) ∙ after-drop xs in
-      ap (λ (l : List ℕ). fractionOf f s l (take (length xs - (p + 1)) (drop (p + 1) xs))) b ∙ ap (λ (l : List ℕ). fractionOf f s (before xs) l) a
+      let b : take p xs ≡ beforePoint xs = ap (λ (x : ℕ). take x xs) place ∙ before-take xs in
+      let a : take (length xs - (p + 1)) (drop (p + 1) xs) ≡ afterPoint xs = tail-is xs (p + 1) ∙ ap (λ (x : ℕ). drop x xs) (add-one p ∙ ap suc place) ∙ after-drop xs in
+      ap (λ (l : List ℕ). fractionOf f s l (take (length xs - (p + 1)) (drop (p + 1) xs))) b ∙ ap (λ (l : List ℕ). fractionOf f s (beforePoint xs) l) a
 
 -- ---- a text by its first bytes
 

@@ -3,4 +3,5 @@ pub mod IntegerLaws
 pub mod DivisionLaws
 pub mod FloatLaws
 pub mod NearestLaws
+pub mod NumeralLaws
 pub mod TextLaws

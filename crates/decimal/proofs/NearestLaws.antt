@@ -3,20 +3,19 @@ use mathlib.Core.Path.{_≡_, refl, sym, ap, _∙_, subst}
 use mathlib.Core.Logic.{_⊎_, inl, inr}
 use mathlib.Core.Bool.{Bool, true, false, cond}
 use Prim.Native.Nat.{ℕ, suc, _+_, _-_, _*_, _/_, _%_, _^_, _<_, _≤_, compare, Ordering}
-use native.Mathlib.Nat.{le-trans, le-of-eq, le-antisymm, lt-of-lt-of-le, lt-of-le-of-lt, lt-of-not-le, not-le-of-lt, eq-or-lt-of-le, mul-comm, mul-assoc, mul-left-comm, mul-right-comm, add-assoc, mul-le-mul-left, mul-le-mul-right, mul-lt-mul-of-pos-right, mul-pos, zero-mul, mul-suc, add-mul, one-mul, mul-div-cancel, le-div-iff-mul-le, div-lt-iff-lt-mul}
+use native.Mathlib.Nat.{le-trans, le-of-eq, lt-of-lt-of-le, lt-of-le-of-lt, lt-of-not-le, not-le-of-lt, eq-or-lt-of-le, mul-comm, mul-assoc, mul-left-comm, mul-right-comm, add-assoc, mul-le-mul-right, mul-lt-mul-of-pos-right, mul-pos, zero-mul, mul-suc, add-mul, one-mul, mul-div-cancel, le-div-iff-mul-le, div-lt-iff-lt-mul}
 use native.Mathlib.Omega.{arith}
-use lib.Dec.{ltb}
 use lib.Pow.{pow-add, pow-pos, pow-mono, pow-lt}
 use lib.Ieee.{Float, nan, inf, fin, Format, binary32, binary64, prec, emax, low, hid, top, up, down, span, climb, size, nearest, odd, units, round, toBits}
 use lib.Ieee.Digits.{size-lt, size-le}
-use lib.Ieee.Fits.{core, round-is, nearest-le, down-pos}
+use lib.Ieee.Fits.{round-is, nearest-le, down-pos}
 use lib.Ieee.Exact.{HasValue, units-val}
 use lib.Ieee.Scale.{round-same}
 use lib.Ieee.Nearest.{closest, closest-same, nearest-ge}
 use Rattle.decimal.specs.declared.Sizes.{Sizes}
 use Rattle.decimal.specs.declared.Quotient.{Quotient}
 use Rattle.decimal.specs.Division.{Divided, Rounded}
-use Rattle.decimal.proofs.DivisionLaws.{closest-is, two-halves}
+use Rattle.decimal.proofs.DivisionLaws.{closest-is}
 
 -- ---- how many binary digits
 

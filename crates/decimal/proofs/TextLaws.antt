@@ -1,56 +1,27 @@
--- Laws of numbers as text: how many digits, a digit put in a turn, and that a text reads back.
+-- Laws of numbers as text: a digit put in a turn, what is in a buffer, and that a text reads back.
 use mathlib.Core.Path.{_≡_, refl, sym, ap, _∙_, subst}
 use mathlib.Core.Bool.{Bool, true, false, cond}
 use mathlib.Core.List.{List, [], _∷_, _++_, append-assoc}
 use Prim.Native.Nat.{ℕ, zero, suc, _+_, _-_, _*_, _/_, _%_, _^_, _<_, _≤_}
-use native.Mathlib.Nat.{le-trans, le-of-eq, not-le-of-lt, lt-of-not-le, lt-of-le-of-lt, pow-zero, pow-suc, one-le-pow, pow-le-pow-right, div-div-eq-div-mul, div-add-mod, mod-lt, div-le-self, div-lt-iff-lt-mul, le-div-iff-mul-le, mul-comm, one-mul, add-zero, add-suc}
-use native.Mathlib.Numerals.{add-one}
+use native.Mathlib.Nat.{le-trans, lt-of-not-le, pow-zero, pow-suc, div-add-mod, mod-lt, div-le-self, div-lt-iff-lt-mul, add-zero, add-suc}
 use native.Mathlib.Omega.{arith}
-use lib.Dec.{ltb, eqb}
-use lib.ListN.{length, take, drop, getD, set, length-set, length-append, take-append-drop}
-use lib.Seq.{drop-cons, take-set-le, drop-set-lt, getD-set-same, take-at, take-append-add}
-use borrow.Author.Tests.{lt-ltb, le-ltb, eqb-true}
+use lib.Dec.{leb, ltb, eqb}
+use lib.ListN.{length, take, drop, set, length-set, length-append, take-append-drop}
+use lib.Seq.{drop-cons, drop-drop, drop-append-add, take-set-le, drop-set-lt, getD-set-same, take-at}
+use borrow.Author.Tests.{lt-ltb, le-ltb, le-leb, lt-leb, eqb-true}
 use Rattle.decimal.specs.declared.Bits.{Bits}
-use Rattle.decimal.specs.declared.Bits.the-variants.{Of, Refused}
+use Rattle.decimal.specs.declared.Bits.the-variants.{Of}
 use Rattle.decimal.specs.declared.Format.{Format}
-use Rattle.decimal.specs.Digits.{digitOf, numberOf}
 use Rattle.decimal.specs.declared.Format.the-variants.{Binary32, Binary64}
+use Rattle.decimal.specs.Digits.{digitOf, numberOf}
 use Rattle.decimal.specs.Integers.{isHex}
 use Rattle.decimal.specs.Floats.{signWeight, hexDigits, floatOf}
-use Rattle.decimal.specs.Text.{glyphOf, lastDigits, Fewest, Numeral, IntegerText}
-use Rattle.decimal.specs.Written.{WrittenAt}
+use Rattle.decimal.specs.Text.{glyphOf, lastDigits, naturalText, integerText, Output, output}
+use Rattle.decimal.specs.Written.{hexText, putAt}
 use Rattle.decimal.proofs.DigitLaws.{digit-1, digit-3, number-then, number-digit, number-none}
 use Rattle.decimal.proofs.IntegerLaws.{tail-is, hex-second, hex-digits}
 use Rattle.decimal.proofs.FloatLaws.{float-hex}
-
--- ---- how many digits: k so far, and n / 10 ^ k left
-
--- a digit is left
-pub places-more : (n k rest : ℕ) → rest ≡ n / 10 ^ k → 0 < rest → (10 ^ k ≤ n) × (rest / 10 ≡ n / 10 ^ (k + 1))
-places-more n k rest e h = (
-  rw one-mul at (le-div-iff-mul-le {k = 10 ^ k} {x = 1} {y = n} (one-le-pow k 10 (omega arith)) .0 (subst (λ (x : ℕ). 0 < x) e h)),
-  ap (λ (x : ℕ). x / 10) e ∙ div-div-eq-div-mul n (10 ^ k) 10 ∙ ap (λ (x : ℕ). n / x) (sym (ap (λ (x : ℕ). 10 ^ x) (add-one k) ∙ pow-suc 10 k)),
-)
-
--- none is
-pub places-end : (n k rest : ℕ) → rest ≡ n / 10 ^ k → rest ≤ 0 → n < 10 ^ k
-places-end n k rest e h =
-    rw one-mul at (div-lt-iff-lt-mul {k = 10 ^ k} {x = n} {y = 1} (one-le-pow k 10 (omega arith)) .0 (omega arith))
-
--- a number below 2 ^ 64 has 20 digits at most
-pub places-few : (n k : ℕ) → n < 2 ^ 64 → 10 ^ k ≤ n → k < 20
-places-few n k h l = lt-of-not-le (λ (g : 20 ≤ k). not-le-of-lt h (le-trans (le-trans (lit k g) l) (le-of-eq refl)))
-  where
-    lit : (k : ℕ) → 20 ≤ k → 2 ^ 64 ≤ 10 ^ k
-    lit k g = le-trans (omega arith) (pow-le-pow-right {n = 10} (omega arith) g)
-
-pub fewest-le : (n k : ℕ) → n < 2 ^ 64 → Fewest n k → k ≤ 20
-fewest-le n k h w = go k (w .fewest)
-  where
-    go : (k : ℕ) → (1 < k → 10 ^ (k - 1) ≤ n) → k ≤ 20
-    go zero f = omega arith
-    go (suc zero) f = omega arith
-    go (suc (suc k)) f = let l = places-few n (suc (suc k) - 1) h (f (omega arith)) in omega arith
+use Rattle.decimal.proofs.NumeralLaws.{digits-length, numeral-last, numeral-few}
 
 -- ---- digits put in from the last to the first: the whole, with `left` digits to go
 
@@ -74,11 +45,6 @@ turn-puts base at l rest out h =
 pub whole-end : (base at rest : ℕ) (out : List ℕ) → Whole base at 0 rest out ≡ out
 unfolding lastDigits
 whole-end base at rest out = ap (λ (x : ℕ). take at out ++ drop x out) (add-zero at) ∙ take-append-drop at out
-
-pub digits-length : (base k n : ℕ) → length (lastDigits base k n) ≡ k
-unfolding lastDigits
-digits-length base zero n = refl
-digits-length base (suc k) n = length-append (lastDigits base k (n / base)) (glyphOf (n % base) ∷ []) ∙ ap (λ (x : ℕ). x + 1) (digits-length base k (n / base)) ∙ add-one k
 
 -- ---- a text reads back
 
@@ -145,77 +111,84 @@ glyph-low d h = rw (lt-ltb d 10 h)
 pub glyph-high : (d : ℕ) → 10 ≤ d → 87 + d ≡ glyphOf d
 glyph-high d h = rw (le-ltb d 10 h)
 
-pub more-fewest : (n k : ℕ) → 10 ^ k ≤ n → 10 ^ (k + 1 - 1) ≤ n
-more-fewest n k h = subst (λ (x : ℕ). 10 ^ x ≤ n) (same k) h
-  where
-    same : (k : ℕ) → k ≡ k + 1 - 1
-    same k = omega arith
-
 pub reads : (f : Format) (text : List ℕ) (b : Bits) (n bits : ℕ) → b ≡ floatOf f text → b ≡ Of n → eqb n bits ≡ true → floatOf f text ≡ Of bits
 reads f text b n bits p q e = sym p ∙ q ∙ ap Of (eqb-true n bits e)
 
 -- ---- what is in a buffer
 
-pub written-is : (n at k : ℕ) (was now : List ℕ) → n < 2 ^ 64 → Fewest n k → now ≡ take at was ++ (lastDigits 10 k n ++ drop (at + k) was) → WrittenAt n at was now (at + k)
-written-is n at k was now h w e = let l = fewest-le n k h w in record {
-  from = omega arith;
-  within = omega arith;
-  bytes = e ∙ ap (λ (x : ℕ). take at was ++ (lastDigits 10 x n ++ drop (at + k) was)) (back at k);
-  size = subst (λ (x : ℕ). Fewest n x) (back at k) w;
-}
+-- the digits of a number
+pub put-digits : (base at count n : ℕ) (was now : List ℕ) → now ≡ Whole base at count n was → now ≡ putAt at (lastDigits base count n) was
+put-digits base at count n was now e = e ∙ ap (λ (k : ℕ). take at was ++ (lastDigits base count n ++ drop (at + k) was)) (sym (digits-length base count n))
+
+-- a number's digits, as many as it has
+pub put-numeral : (n at k : ℕ) (was now : List ℕ) → k ≡ length (naturalText n) → now ≡ putAt at (lastDigits 10 k n) was → now ≡ putAt at (naturalText n) was
+put-numeral n at k was now e w = w ∙ ap (λ (text : List ℕ). putAt at text was) (ap (λ (x : ℕ). lastDigits 10 x n) e ∙ numeral-last n)
+
+-- an answer and bytes that are equal
+output-same : (r s : ℕ) (b c : List ℕ) → r ≡ s → b ≡ c → _≡_ {A = Output} (record { size = r; bytes = b }) (record { size = s; bytes = c })
+output-same r s b c p q = cc
+
+-- a text put in after first bytes, which may be none
+pub output-after : (first text was mid now : List ℕ) (r : ℕ) → mid ≡ first ++ drop (length first) was → r ≡ length first + length text → now ≡ putAt (length first) text mid → record { size = r; bytes = now } ≡ output (first ++ text) was
+output-after first text was mid now r m e w =
+    output-same r (length (first ++ text)) now ((first ++ text) ++ drop (length (first ++ text)) was) (e ∙ sym all)
+    (w
+    ∙ ap (λ (l : List ℕ). putAt (length first) text l) m
+    ∙ ap (λ (l : List ℕ). l ++ (text ++ drop (length first + length text) (first ++ drop (length first) was))) (take-at first (drop (length first) was) (length first) refl)
+    ∙ ap (λ (l : List ℕ). first ++ (text ++ l)) (drop-append-add first (drop (length first) was) (length text) ∙ drop-drop (length text) (length first) was ∙ ap (λ (k : ℕ). drop k was) (sym all))
+    ∙ sym (append-assoc first text (drop (length (first ++ text)) was)))
   where
-    back : (a b : ℕ) → b ≡ a + b - a
-    back a b = omega arith
+    all : length (first ++ text) ≡ length first + length text
+    all = length-append first text
 
-pub natural-text : (n : ℕ) (was now : List ℕ) (r : ℕ) → WrittenAt n 0 was now r → (r ≤ 20) × Numeral n r (take r now)
-natural-text n was now r w = (
-  let h = w .within in omega arith,
-  record {
-    digits = ap (take r) (w .bytes) ∙ take-at (lastDigits 10 (r - 0) n) (drop r was) r (digits-length 10 (r - 0) n ∙ whole r) ∙ ap (λ (x : ℕ). lastDigits 10 x n) (whole r);
-    size = subst (λ (x : ℕ). Fewest n x) (whole r) (w .size);
-  },
-)
-  where
-    whole : (r : ℕ) → r - 0 ≡ r
-    whole r = omega arith
-
--- a text after some bytes
-after-bytes : (p q r : List ℕ) (n : ℕ) → n ≡ length p + length q → take n (p ++ (q ++ r)) ≡ p ++ q
-after-bytes p q r n e = ap (λ (x : ℕ). take x (p ++ (q ++ r))) e ∙ take-append-add p (q ++ r) (length q) ∙ ap (λ (x : List ℕ). p ++ x) (take-at q r (length q) refl)
-
-one-set : (b : ℕ) (was : List ℕ) → 1 ≤ length was → take 1 (set was 0 b) ≡ b ∷ []
+one-set : (b : ℕ) (was : List ℕ) → 1 ≤ length was → set was 0 b ≡ b ∷ drop 1 was
 one-set b [] h = absurd (let g : 1 ≤ 0 = h in omega arith)
 one-set b (x ∷ xs) h = refl
 
-two-set : (a b : ℕ) (was : List ℕ) → 2 ≤ length was → take 2 (set (set was 0 a) 1 b) ≡ a ∷ (b ∷ [])
+two-set : (a b : ℕ) (was : List ℕ) → 2 ≤ length was → set (set was 0 a) 1 b ≡ a ∷ (b ∷ drop 2 was)
 two-set a b [] h = absurd (let g : 2 ≤ 0 = h in omega arith)
 two-set a b (x ∷ []) h = absurd (let g : 2 ≤ 1 = h in omega arith)
 two-set a b (x ∷ (y ∷ xs)) h = refl
 
-pub integer-plain-text : (bits highest : ℕ) (was now : List ℕ) (r : ℕ) → bits ≤ highest → WrittenAt bits 0 was now r → (r ≤ 21) × IntegerText bits highest r (take r now)
-integer-plain-text bits highest was now r h w =
-    let t = natural-text bits was now r w in
-    (omega arith, record { plain = λ g. t .1; minus = λ g. absurd (omega arith) })
+-- ---- what the writers leave
 
-pub integer-minus-text : (bits highest m : ℕ) (was now : List ℕ) (r : ℕ) → highest < bits → 1 ≤ length was → m ≡ 2 * highest + 2 - bits → WrittenAt m 1 (set was 0 45) now r → (r ≤ 21) × IntegerText bits highest r (take r now)
-integer-minus-text bits highest m was now r h k e w = (let g = w .within in omega arith, record { plain = λ g. absurd (omega arith); minus = λ g. (text ∙ ap (λ (x : List ℕ). 45 ∷ drop 1 x) (sym text), record { digits = ap (drop 1) text ∙ ap (λ (x : ℕ). lastDigits 10 (r - 1) x) e; size = subst (λ (x : ℕ). Fewest x (r - 1)) e (w .size) }) })
+pub integer-plain-out : (bits highest : ℕ) (was now : List ℕ) (r : ℕ) → bits ≤ highest → r ≡ 0 + length (naturalText bits) → now ≡ putAt 0 (naturalText bits) was → record { size = r; bytes = now } ≡ output (integerText bits highest) was
+unfolding integerText
+integer-plain-out bits highest was now r h e w = rw (le-leb bits highest h) (output-after [] (naturalText bits) was was now r refl e w)
+
+pub integer-minus-out : (bits highest m : ℕ) (was now : List ℕ) (r : ℕ) → highest < bits → 1 ≤ length was → m ≡ 2 * highest + 2 - bits → r ≡ 1 + length (naturalText m) → now ≡ putAt 1 (naturalText m) (set was 0 45) → record { size = r; bytes = now } ≡ output (integerText bits highest) was
+unfolding integerText
+integer-minus-out bits highest m was now r h k s e w =
+    rw (lt-leb bits highest h)
+    (output-after (45 ∷ []) (naturalText m) was (set was 0 45) now r (one-set 45 was k) e w ∙ ap (λ (x : ℕ). output (45 ∷ naturalText x) was) s)
+
+pub hex-out : (bits count : ℕ) (was now : List ℕ) → 2 ≤ length was → now ≡ putAt 2 (lastDigits 16 count bits) (set (set was 0 48) 1 120) → record { size = 2 + count; bytes = now } ≡ output (hexText bits count) was
+unfolding hexText
+hex-out bits count was now h w =
+    output-after (48 ∷ (120 ∷ [])) (lastDigits 16 count bits) was (set (set was 0 48) 1 120) now (2 + count) (two-set 48 120 was h) (ap (λ (k : ℕ). 2 + k) (sym (digits-length 16 count bits))) w
+
+-- so many bytes at the start are the text
+output-text : (text was now : List ℕ) (r : ℕ) → record { size = r; bytes = now } ≡ output text was → take r now ≡ text
+output-text text was now r e =
+    ap (λ (o : Output). take (o .size) (o .bytes)) e ∙ take-at text (drop (length text) was) (length text) refl
+
+-- a numeral's length is at most 20, an integer's at most 21
+pub natural-size : (n : ℕ) (was now : List ℕ) (r : ℕ) → record { size = r; bytes = now } ≡ output (naturalText n) was → r ≤ 20
+natural-size n was now r e = let s : r ≡ length (naturalText n) = ap (λ (o : Output). o .size) e in omega (arith, numeral-few n)
+
+pub integer-size : (bits highest : ℕ) (was now : List ℕ) (r : ℕ) → record { size = r; bytes = now } ≡ output (integerText bits highest) was → r ≤ 21
+unfolding integerText
+integer-size bits highest was now r e = let s : r ≡ length (integerText bits highest) = ap (λ (o : Output). o .size) e in let l = go (leb bits highest) in omega arith
   where
-    text : take r now ≡ 45 ∷ lastDigits 10 (r - 1) m
-    text =
-        ap (take r) (w .bytes ∙ ap (λ (x : List ℕ). x ++ (lastDigits 10 (r - 1) m ++ drop r (set was 0 45))) (one-set 45 was k))
-        ∙ after-bytes (45 ∷ []) (lastDigits 10 (r - 1) m) (drop r (set was 0 45)) r (let f = w .from in let l = digits-length 10 (r - 1) m in omega arith)
-
-pub hex-text : (n count : ℕ) (was now : List ℕ) → 2 ≤ length was → now ≡ take 2 (set (set was 0 48) 1 120) ++ (lastDigits 16 count n ++ drop (2 + count) (set (set was 0 48) 1 120)) → take (2 + count) now ≡ 48 ∷ (120 ∷ lastDigits 16 count n)
-hex-text n count was now h e =
-    let rest = drop (2 + count) (set (set was 0 48) 1 120) in
-    ap (take (2 + count)) (e ∙ ap (λ (x : List ℕ). x ++ (lastDigits 16 count n ++ rest)) (two-set 48 120 was h))
-    ∙ after-bytes (48 ∷ (120 ∷ [])) (lastDigits 16 count n) rest (2 + count) (let l = digits-length 16 count n in omega arith)
+    go : (t : Bool) → length (cond t (naturalText bits) (45 ∷ naturalText (2 * highest + 2 - bits))) ≤ 21
+    go true = omega (arith, numeral-few bits)
+    go false = omega (arith, numeral-few (2 * highest + 2 - bits))
 
 -- ---- a float's bits in hexadecimal read back
 
-hex-holds : (f : Format) (bits : ℕ) → bits < 2 * signWeight f → (bits < 16 ^ hexDigits f) × (bits ≤ 2 ^ 64 - 1) × (hexDigits f ≤ 16)
-hex-holds Binary32 bits h = (h, omega arith, omega arith)
-hex-holds Binary64 bits h = (h, omega arith, omega arith)
+hex-holds : (f : Format) (bits : ℕ) → bits < 2 * signWeight f → (bits < 16 ^ hexDigits f) × (bits ≤ 2 ^ 64 - 1)
+hex-holds Binary32 bits h = (h, omega arith)
+hex-holds Binary64 bits h = (h, omega arith)
 
 pub hex-small : (f : Format) → hexDigits f ≤ 16
 hex-small Binary32 = omega arith
@@ -223,28 +196,28 @@ hex-small Binary64 = omega arith
 
 module _ (f : Format) (bits : ℕ) (h : bits < 2 * signWeight f) where
   told : List ℕ
-  told = 48 ∷ (120 ∷ lastDigits 16 (hexDigits f) bits)
+  told = hexText bits (hexDigits f)
 
   long : 2 ≤ length told
-  unfolding told
+  unfolding told hexText
   long = at-least (length (lastDigits 16 (hexDigits f) bits))
     where
       at-least : (n : ℕ) → 2 ≤ suc (suc n)
       at-least n = omega arith
 
   begins : true ≡ isHex told
-  unfolding told
+  unfolding told hexText
   begins = hex-second told long refl
 
   sized : length told - 2 ≡ hexDigits f
-  unfolding told
+  unfolding told hexText
   sized = less (length (lastDigits 16 (hexDigits f) bits)) ∙ digits-length 16 (hexDigits f) bits
     where
       less : (n : ℕ) → suc (suc n) - 2 ≡ n
       less n = omega arith
 
   tail : drop 2 told ≡ lastDigits 16 (hexDigits f) bits
-  unfolding told
+  unfolding told hexText
   tail = refl
 
   told-back : floatOf f told ≡ Of bits
@@ -254,6 +227,12 @@ module _ (f : Format) (bits : ℕ) (h : bits < 2 * signWeight f) where
       ∙ ap (λ (x : List ℕ). numberOf 16 0 x (2 ^ 64 - 1)) (tail-is told 2 ∙ tail)
       ∙ digits-back 16 (hexDigits f) bits (2 ^ 64 - 1) (omega arith) (omega arith) (hex-holds f bits h .0) (hex-holds f bits h .1)
 
-  pub hex-back : (text : List ℕ) → text ≡ 48 ∷ (120 ∷ lastDigits 16 (hexDigits f) bits) → floatOf f text ≡ Of bits
-  unfolding told
-  hex-back text e = ap (floatOf f) e ∙ told-back
+  pub hex-back : (count : ℕ) (was now : List ℕ) (r : ℕ) → count ≡ hexDigits f → record { size = r; bytes = now } ≡ output (hexText bits count) was → (r ≤ 37) × (floatOf f (take r now) ≡ Of bits)
+  unfolding told hexText
+  hex-back count was now r c e =
+      let s : r ≡ 2 + count = ap (λ (o : Output). o .size) e ∙ size (lastDigits 16 count bits) (digits-length 16 count bits) in
+      let l = hex-small f in
+      (omega arith, ap (floatOf f) (output-text (hexText bits count) was now r e ∙ ap (hexText bits) c) ∙ told-back)
+    where
+      size : (xs : List ℕ) → length xs ≡ count → suc (suc (length xs)) ≡ 2 + count
+      size xs z = omega arith

@@ -28,13 +28,13 @@ hexDigits Binary32 = 8
 hexDigits Binary64 = 16
 
 -- the bytes before the first point (46), and those after it
-unfoldable pub before : List ℕ → List ℕ
-before [] = []
-before (b ∷ bs) = cond (eqb b 46) [] (b ∷ before bs)
+unfoldable pub beforePoint : List ℕ → List ℕ
+beforePoint [] = []
+beforePoint (b ∷ bs) = cond (eqb b 46) [] (b ∷ beforePoint bs)
 
-unfoldable pub after : List ℕ → List ℕ
-after [] = []
-after (b ∷ bs) = cond (eqb b 46) bs (after bs)
+unfoldable pub afterPoint : List ℕ → List ℕ
+afterPoint [] = []
+afterPoint (b ∷ bs) = cond (eqb b 46) bs (afterPoint bs)
 
 -- the bits of the float that is nearest to a fraction with a sign, ties to even
 abbrev pub nearestBits : Format → Bool → Bits → ℕ → Bits
@@ -47,8 +47,9 @@ fractionOf f s whole part =
     cond (eqb (length whole + length part) 0 || ltb 15 (length part)) Refused
     (nearestBits f s (numberOf 10 0 (whole ++ part) (10 ^ 15 - 1)) (10 ^ length part))
 
+-- the float of the digits in a text, of which one byte may be a point
 unfoldable pub sizeOf : Format → Bool → List ℕ → Bits
-sizeOf f s text = fractionOf f s (before text) (after text)
+sizeOf f s text = fractionOf f s (beforePoint text) (afterPoint text)
 
 -- the bits of the float that a text tells: 0x and its bits, or a decimal after - (45), + (43) or no sign
 unfoldable pub floatOf : Format → List ℕ → Bits

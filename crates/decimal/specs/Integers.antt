@@ -17,6 +17,7 @@ naturalOf (b ∷ bs) most = numberOf 10 0 (b ∷ bs) most
 abbrev pub minus : ℕ → ℕ
 minus n = (2 ^ 64 - n) % 2 ^ 64
 
+-- minus the number that was read
 abbrev pub minusOf : Bits → Bits
 minusOf (Of n) = Of (minus n)
 minusOf Refused = Refused

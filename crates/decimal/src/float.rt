@@ -2,7 +2,7 @@
 ghost use mathlib.Core.Path.{_≡_};
 ghost use Prim.Native.Nat.{_^_, _≤_};
 ghost use lib.ListN.{length};
-ghost use Rattle.decimal.specs.Floats.{hexDigits, before, fractionOf, sizeOf, floatOf};
+ghost use Rattle.decimal.specs.Floats.{hexDigits, beforePoint, fractionOf, sizeOf, floatOf};
 use crate::Bits;
 use crate::Format;
 use crate::digits;
@@ -21,7 +21,7 @@ pub(crate) fn hex_digits(f: Format) -> usize
 
 // The place of the first point, the text's length if there is none.
 fn point_place(text: &[u8]) -> usize
-    ensures { λ r. ⌜ r ≡ length (before (now (text .entry))) ⌝ }
+    ensures { λ r. ⌜ r ≡ length (beforePoint (now (text .entry))) ⌝ }
 {
     for i in 0..text.len() {
         if text[i] == b'.' {

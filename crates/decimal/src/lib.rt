@@ -1,9 +1,9 @@
 // Numbers as text and back: integers in decimal, bits in hexadecimal, floats as decimals of at most 15 digits.
-pub mod digits;
+mod digits;
 pub mod float;
 pub mod hex;
 pub mod integer;
-pub mod rounding;
+mod rounding;
 pub mod write;
 pub mod write_float;
 
@@ -20,26 +20,26 @@ pub enum Format {
 }
 
 // A format's numbers: the digits of a significand, and the exponent of the largest values.
-pub struct Sizes {
+pub(crate) struct Sizes {
     pub precision: u64,
     pub emax: u64,
 }
 
 // A quotient's first 63 binary digits: `whole` and `rest` / divisor, after `steps` doublings of the dividend.
-pub struct Quotient {
+pub(crate) struct Quotient {
     pub whole: u64,
     pub rest: u64,
     pub steps: u64,
 }
 
 // A float's exponent field and significand digits, as Binary64 has them.
-pub struct Scaled {
+pub(crate) struct Scaled {
     pub field: u64,
     pub digits: u64,
 }
 
 // A float's size as a whole number and a fraction, cut to 60 binary digits.
-pub struct Fixed {
+pub(crate) struct Fixed {
     pub whole: u64,
     pub fraction: u64,
 }

@@ -2,7 +2,7 @@
 ghost use mathlib.Core.Path.{_≡_};
 ghost use mathlib.Core.Bool.{cond};
 ghost use Prim.Native.Nat.{_*_, _^_, _<_, _≤_};
-ghost use lib.Ieee.{prec, emax, toBits, round};
+ghost use lib.Ieee.{emax, toBits, round};
 ghost use Rattle.decimal.specs.Floats.{ieee, signWeight};
 ghost use Rattle.decimal.specs.Division.{SizesOf, Divided, Rounded};
 use crate::Format;

@@ -1,14 +1,13 @@
 // Integers and bits as text.
 ghost use mathlib.Core.Path.{_≡_};
-ghost use mathlib.Core.List.{_∷_, _++_};
-ghost use Prim.Native.Nat.{_+_, _-_, _*_, _<_, _≤_};
-ghost use lib.ListN.{length, take, drop};
-ghost use Rattle.decimal.specs.Text.{glyphOf, lastDigits, Fewest, Numeral, IntegerText};
-ghost use Rattle.decimal.specs.Written.{WrittenAt};
+ghost use Prim.Native.Nat.{_+_, _*_, _<_, _≤_};
+ghost use lib.ListN.{length};
+ghost use Rattle.decimal.specs.Text.{glyphOf, lastDigits, naturalText, integerText, output};
+ghost use Rattle.decimal.specs.Written.{hexText, putAt};
 
 // How many decimal digits a number has.
 fn places(n: u64) -> usize
-    ensures { λ r. ⌜ Fewest n r ⌝ }
+    ensures { λ r. ⌜ r ≡ length (naturalText n) ⌝ }
 {
     let mut k: usize = 1;
     let mut rest = n / 10;
@@ -30,7 +29,7 @@ fn glyph(d: u64) -> u8
 // Puts the last `count` digits of n in from place `at` on.
 fn spell(n: u64, base: u64, at: usize, count: usize, out: &mut [u8])
     requires { ⌜ (0 < base) × (base ≤ 16) × (at + count ≤ length (now out)) ⌝ }
-    ensures { λ _. ⌜ now (out .exit) ≡ take at (now (out .entry)) ++ (lastDigits base count n ++ drop (at + count) (now (out .entry))) ⌝ }
+    ensures { λ _. ⌜ now (out .exit) ≡ putAt at (lastDigits base count n) (now (out .entry)) ⌝ }
 {
     let mut rest = n;
     let mut left = count;
@@ -45,25 +44,26 @@ fn spell(n: u64, base: u64, at: usize, count: usize, out: &mut [u8])
 // Puts a number's decimal digits in from place `at` on; answers where they end.
 fn write_from(n: u64, at: usize, out: &mut [u8]) -> usize
     requires { ⌜ at + 20 ≤ length (now out) ⌝ }
-    ensures { λ r. ⌜ WrittenAt n at (now (out .entry)) (now (out .exit)) r ⌝ }
+    ensures { λ r. ⌜ r ≡ at + length (naturalText n) ⌝ }
+    ensures { λ _. ⌜ now (out .exit) ≡ putAt at (naturalText n) (now (out .entry)) ⌝ }
 {
     let count = places(n);
     spell(n, 10, at, count, out);
     at + count
 }
 
-// Puts a number's decimal digits at the start of `out`; answers how many there are.
+// Puts a number's decimal digits at the start of `out` and keeps the bytes after them; answers how many there are.
 pub fn write_natural(n: u64, out: &mut [u8]) -> usize
     requires { ⌜ 20 ≤ length (now out) ⌝ }
-    ensures { λ r. ⌜ (r ≤ 20) × Numeral n r (take r (now (out .exit))) ⌝ }
+    ensures { λ r. ⌜ record { size = r; bytes = now (out .exit) } ≡ output (naturalText n) (now (out .entry)) ⌝ }
 {
     write_from(n, 0, out)
 }
 
-// Puts the integer that the bits are in two's complement, at most `highest`, at the start of `out`; answers its length.
+// Puts the integer that the bits are in two's complement, at most `highest`, at the start of `out` and keeps the bytes after it; answers its length.
 pub fn write_integer(bits: u64, highest: u64, out: &mut [u8]) -> usize
     requires { ⌜ (bits < 2 * highest + 2) × (2 * highest + 2 ≤ 18446744073709551616) × (21 ≤ length (now out)) ⌝ }
-    ensures { λ r. ⌜ (r ≤ 21) × IntegerText bits highest r (take r (now (out .exit))) ⌝ }
+    ensures { λ r. ⌜ record { size = r; bytes = now (out .exit) } ≡ output (integerText bits highest) (now (out .entry)) ⌝ }
 {
     if bits <= highest {
         return write_from(bits, 0, out);
@@ -72,10 +72,10 @@ pub fn write_integer(bits: u64, highest: u64, out: &mut [u8]) -> usize
     write_from((2 * highest + 1 - bits) + 1, 1, out)
 }
 
-// Puts 0x and the last `count` hexadecimal digits at the start of `out`; answers their length.
-pub fn write_hex(bits: u64, count: usize, out: &mut [u8]) -> usize
+// Puts 0x and the last `count` hexadecimal digits at the start of `out` and keeps the bytes after them; answers their length.
+pub(crate) fn write_hex(bits: u64, count: usize, out: &mut [u8]) -> usize
     requires { ⌜ 2 + count ≤ length (now out) ⌝ }
-    ensures { λ r. ⌜ (r ≡ 2 + count) × (take r (now (out .exit)) ≡ 48 ∷ (120 ∷ lastDigits 16 count bits)) ⌝ }
+    ensures { λ r. ⌜ record { size = r; bytes = now (out .exit) } ≡ output (hexText bits count) (now (out .entry)) ⌝ }
 {
     out[0] = b'0';
     out[1] = b'x';
@@ -83,7 +83,8 @@ pub fn write_hex(bits: u64, count: usize, out: &mut [u8]) -> usize
     2 + count
 }
 
-// Puts n / power in from place `at` on, with k digits after the point, if there are any; answers where it ends.
+// Puts n / power in from place `at` on, with k digits after the point, if there are any; answers where it ends. Promised is only that this is
+// at most 37: the caller reads the text back.
 pub(crate) fn write_fixed(n: u64, k: usize, power: u64, at: usize, out: &mut [u8]) -> usize
     requires { ⌜ (k ≤ 15) × (0 < power) × (at ≤ 1) × (37 ≤ length (now out)) ⌝ }
     ensures { λ r. ⌜ r ≤ 37 ⌝ }

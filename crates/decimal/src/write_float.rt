@@ -1,4 +1,5 @@
-// Floats as text: the shortest decimal of at most 15 digits that reads back, or the bits.
+// Floats as text: a decimal of at most 15 digits that reads back, or else the bits. That it reads back is what the contracts promise; which
+// decimals are tried, and in which order, they leave open.
 ghost use mathlib.Core.Path.{_≡_};
 ghost use mathlib.Core.Bool.{true};
 ghost use Prim.Native.Nat.{_*_, _<_, _≤_};
@@ -115,8 +116,8 @@ fn either(m: u64, k: usize, bits: u64, f: Format, out: &mut [u8]) -> usize
     candidate(m + 1, k, bits, f, out)
 }
 
-// The shortest decimal that reads as the bits; answers its length, 0 if there is none.
-fn shortest(bits: u64, f: Format, out: &mut [u8]) -> usize
+// Tries decimals, those with fewer digits after the point first; answers the length of the first that reads as the bits, 0 if none does.
+fn first_decimal(bits: u64, f: Format, out: &mut [u8]) -> usize
     requires { ⌜ 37 ≤ length (now out) ⌝ }
     ensures { λ r. ⌜ ReadsBack bits f (now (out .exit)) r ⌝ }
 {
@@ -134,12 +135,13 @@ fn shortest(bits: u64, f: Format, out: &mut [u8]) -> usize
     0
 }
 
-// Puts a float at the start of `out`: a text that reads as its bits. Answers the text's length.
+// Puts a text that reads as the float's bits at the start of `out`; answers its length. Which of the texts that do is not promised, nor what
+// the bytes after it are.
 pub fn write_float(bits: u64, f: Format, out: &mut [u8]) -> usize
     requires { ⌜ (bits < 2 * signWeight f) × (37 ≤ length (now out)) ⌝ }
     ensures { λ r. ⌜ (r ≤ 37) × (floatOf f (take r (now (out .exit))) ≡ Of bits) ⌝ }
 {
-    let end = shortest(bits, f, out);
+    let end = first_decimal(bits, f, out);
     if end != 0 {
         return end;
     }

@@ -1,18 +1,48 @@
-// Runs the edges of document 01 that are run: 63, 64 and 65 slots, sparse and dense, and the orders of appended columns.
-mod entries;
+// Runs the edges of document 01 that are run. Every list of appends is played in both layouts, by `append` and by `append_mut`.
+mod again;
+mod fields;
+mod first;
+mod kinds;
+mod lend;
+mod lists;
+mod makings;
 mod masks;
-mod order;
+mod names;
+mod notes;
+mod play;
 mod print;
+mod read;
+mod refusals;
 mod rounds;
-mod script;
+mod run;
+mod same;
+mod shown;
+mod slots;
+mod tell;
+
+fn list(title: &[u8], list: usize, dense: bool) {
+    print::layout(dense);
+    print::text(title);
+    print::end();
+    run::run(list, dense);
+}
+
+fn layout(dense: bool) {
+    list(b", 63 slots", 63, dense);
+    list(b", 64 slots", 64, dense);
+    list(b", 65 slots", 65, dense);
+    list(b", one column", 1, dense);
+    list(b", b then a", 2, dense);
+    list(b", A, B, A of another kind, C, A", 3, dense);
+    list(b", 3 slots and 2 columns", 4, dense);
+    list(b", the ten kinds", 5, dense);
+    list(b", names", 6, dense);
+    list(b", one slot more than is lent", 7, dense);
+    list(b", no column", 8, dense);
+    makings::lines(dense);
+}
 
 fn main() {
-    rounds::round(false, 63);
-    rounds::round(false, 64);
-    rounds::round(false, 65);
-    rounds::round(true, 63);
-    rounds::round(true, 64);
-    rounds::round(true, 65);
-    order::run(b"b0a0");
-    order::run(b"A0B0A1C0A0");
+    layout(false);
+    layout(true);
 }

@@ -8,14 +8,11 @@ use union_array::UnionArray;
 
 // An answer on a line: number, present, null count, route, words.
 fn answer(r: LogicalNulls, words: [u64; 3]) {
-    print::text(b":");
-    print::small(r.refusal);
+    print::small(b":", r.refusal);
     print::flag(r.present);
     print::size(r.nulls);
-    print::small(r.route);
-    print::word(words[0]);
-    print::word(words[1]);
-    print::word(words[2]);
+    print::size(r.route as usize);
+    print::words(&words);
     print::end();
 }
 
@@ -30,8 +27,7 @@ fn at_setting(
 ) {
     let mut words = [0xffu64; 3];
     let r = mask::logical_nulls(a, cost, ids, offsets, values, masks, names, &mut words);
-    print::text(b"  mask at");
-    print::size(cost);
+    print::count(b"  mask at", cost);
     answer(r, words);
 }
 
@@ -86,4 +82,23 @@ pub fn strategies(
     let full = SparseStrategy::SkipFullyNull;
     print::text(b"  skip fully null");
     by_strategy(a, full, ids, offsets, values, masks, names);
+}
+
+// With no word lent: at a setting, at a number that is none, and by a strategy.
+pub fn no_words(
+    a: UnionArray,
+    ids: &[i8],
+    offsets: &[i32],
+    values: &[u64],
+    masks: &[u64],
+    names: &[u8],
+) {
+    let mut words = [0u64; 0];
+    let r = mask::logical_nulls(a, 10, ids, offsets, values, masks, names, &mut words);
+    print::small(b"  no word lent: mask at 10:", r.refusal);
+    let r = mask::logical_nulls(a, 4, ids, offsets, values, masks, names, &mut words);
+    print::small(b", at 4:", r.refusal);
+    let gather = SparseStrategy::Gather;
+    let r = named::run_strategy(a, gather, ids, offsets, values, masks, names, &mut words);
+    print::answer(b", gather:", r.refusal);
 }

@@ -1,33 +1,12 @@
-// A builder is lent one entry more than it has slots, and what it holds is read back: every slot, every null mask, a slice.
-use crate::entries;
+// What a round leaves, read back: every slot, every null mask, a slice, and a snapshot that was taken half way.
+use crate::fields;
 use crate::masks as null_masks;
 use crate::print;
-use crate::script;
+use crate::tell;
 use union_array::UnionArray;
 use union_builder::UnionBuilder;
-ghost use Prim.Native.Nat.{_≤_};
 
-// How many of the entries from `first` to `end` - 1 the array's slots 0, 1, .. have.
-fn count_entries(
-    a: UnionArray,
-    first: usize,
-    end: usize,
-    ids: &[i8],
-    offsets: &[i32],
-    values: &[u64],
-    masks: &[u64],
-    names: &[u8],
-) -> usize {
-    let mut count: usize = 0;
-    for i in first..end {
-        if entries::has_entry(a, i - first, i, ids, offsets, values, masks, names) {
-            count += 1;
-        }
-    }
-    count
-}
-
-// The slots that have their entry, and every null mask.
+// The fields, how many slots tell entries `first` to `end` - 1, and every null mask.
 fn read_back(
     a: UnionArray,
     first: usize,
@@ -38,19 +17,17 @@ fn read_back(
     masks: &[u64],
     names: &[u8],
 ) {
-    let refusal = a.try_new(ids, offsets, values, masks, names);
-    let count = count_entries(a, first, end, ids, offsets, values, masks, names);
-    print::text(b"  try_new");
-    print::small(refusal);
-    print::text(b", slots that tell their entry");
-    print::size(count);
+    fields::lines(a, ids, offsets, values, masks, names);
+    print::small(b"  try_new", a.try_new(ids, offsets, values, masks, names));
+    let count = tell::count(a, first, end, ids, offsets, values, masks, names);
+    print::count(b", slots that tell their entry", count);
     print::end();
     null_masks::settings(a, ids, offsets, values, masks, names);
     null_masks::strategies(a, ids, offsets, values, masks, names);
 }
 
 // What a builder of n slots describes, and its slice from slot 1 on.
-fn described(
+pub fn described(
     b: UnionBuilder,
     n: usize,
     ids: &[i8],
@@ -64,51 +41,23 @@ fn described(
     }
     let f = b.finish_cloned(ids, offsets, values, masks, names);
     let a = f.array;
+    print::answer(b" finish_cloned:", f.refusal);
     read_back(a, 0, n, ids, offsets, values, masks, names);
     let s = a.slice(1, n - 1, ids, offsets, values, masks, names);
     let part = s.array;
-    print::slice(s.refusal);
+    print::answer(b" slice from slot 1:", s.refusal);
     read_back(part, 1, n, ids, offsets, values, masks, names);
 }
 
-// A builder of `capacity` slots is lent one entry more; a snapshot is taken half way, and read back with the rest.
-pub fn round(dense: bool, capacity: usize)
-    requires { ⌜ capacity ≤ 65 ⌝ }
-{
-    let mut ids = [0i8; 65];
-    let mut offsets = [0i32; 65];
-    let mut values = [0u64; 195];
-    let mut masks = [0u64; 6];
-    let mut names = [0u8; 96];
-    let half = capacity / 2;
-    let all = capacity + 1;
-    print::round(dense, capacity);
-    let b = script::played(
-        dense,
-        capacity,
-        b"a2b2a-b2a2b-",
-        half,
-        false,
-        &mut ids,
-        &mut offsets,
-        &mut values,
-        &mut masks,
-        &mut names,
-    );
-    let f = b.finish_cloned(&ids, &offsets, &values, &masks, &names);
-    let full = script::play(
-        b,
-        b"a2b2a-b2a2b-",
-        half,
-        all,
-        false,
-        &mut ids,
-        &mut offsets,
-        &mut values,
-        &mut masks,
-        &mut names,
-    );
-    described(full, capacity, &ids, &offsets, &values, &masks, &names);
-    print::snapshot(half);
-    read_back(f.array, 0, half, &ids, &offsets, &values, &masks, &names);
+pub fn snapshot(
+    a: UnionArray,
+    ids: &[i8],
+    offsets: &[i32],
+    values: &[u64],
+    masks: &[u64],
+    names: &[u8],
+) {
+    print::count(b" snapshot at slot", a.count);
+    print::end();
+    read_back(a, 0, a.count, ids, offsets, values, masks, names);
 }

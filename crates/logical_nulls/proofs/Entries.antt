@@ -31,9 +31,9 @@ use Rattle.null_route.specs.declared.Field.{Field}
 use Rattle.null_route.specs.Fields.{noField, stateOf, fieldOf, asColumn}
 use Rattle.null_route.proofs.FieldStates.{all-present}
 use Rattle.logical_nulls.specs.Steps.{wordOf, fieldPresent, idAt}
-use Rattle.logical_nulls.proofs.Marking.{span-cut}
+use Rattle.logical_nulls.proofs.Selecting.{span-cut}
 use Rattle.logical_nulls.proofs.Strategies.{its-child, its-slot, its-bit}
-use Rattle.logical_nulls.specs.Table.{withoutNulls, store, stored, tableOf, entryAt, gatheredAt, Gathers}
+use Rattle.logical_nulls.specs.Table.{withoutNulls, store, stored, tableOf, tableEntry, gatheredAt, Gathers}
 
 -- ---- one more field
 
@@ -86,6 +86,10 @@ abs-inj (negsuc a) b p q e = absurd p
 pub valid-plain : (z : ℤ) → validId z ≡ true → T (nonNeg z) × (natAbs z < 128)
 valid-plain (pos n) e = (tt, ltb-true n 128 e)
 valid-plain (negsuc n) e = absurd (false≢true e)
+
+pub plain-is : (z : ℤ) → T (nonNeg z) → z ≡ pos (natAbs z)
+plain-is (pos n) h = refl
+plain-is (negsuc n) h = absurd h
 
 store-length : (b : Bool) (t : List Field) (i : ℕ) (f : Field) → length (store b t i f) ≡ length t
 store-length true t i f = length-set t i f
@@ -163,7 +167,7 @@ module _ (a : UnionArray) (m : Buffers) (y : AllAccepted a m) (i : ℕ) (h : i <
   pub id-ok : T (nonNeg (typeIdAt a m i)) × (natAbs (typeIdAt a m i) < 128)
   id-ok = valid-plain (typeIdAt a m i) (ap validId (sym (found-id (inUse a) (typeIdAt a m i) c (its-child a m y i h))) ∙ child-ok .valid)
 
-  entry-is : entryAt (tableOf (map (fieldOf m) (inUse a))) (m .ids) (a .start) i ≡ cond (ltb 0 (stateOf m c)) (fieldOf m c) withoutNulls
+  entry-is : tableEntry (tableOf (map (fieldOf m) (inUse a))) (m .ids) (a .start) i ≡ cond (ltb 0 (stateOf m c)) (fieldOf m c) withoutNulls
   unfolding tableOf
   entry-is =
       entry-of m (typeIdAt a m i) (id-ok .0) (inUse a) (replicate 256 withoutNulls) c (y .array .valid) (y .array .alone) (length-replicate 256 withoutNulls) (its-child a m y i h)

@@ -6,10 +6,9 @@ use mathlib.Core.Option.{Option, none, some}
 use Prim.Native.Nat.{ℕ, _*_, _^_, _≤_, _<_}
 use native.Mathlib.Omega.{arith}
 use borrow.Author.Tests.{ne-eqb}
-use lib.Dec.{T, eqb}
+use lib.Dec.{eqb}
 use lib.IntN.{ℤ}
 use lib.ListN.{length, getD}
-use lib.Signed.{nonNeg}
 use Rattle.bitmap.specs.Bits.{count, wordsFor, nullsOf, written}
 use Rattle.bitmap.proofs.Tables.{retable-at}
 use Rattle.bitmap.proofs.Setting.{written-nulls, written-length, written-ext}
@@ -17,24 +16,24 @@ use Rattle.union_array.specs.declared.Column.{Column}
 use Rattle.union_array.specs.declared.Layout.{Layout}
 use Rattle.union_array.specs.declared.Layout.the-variants.{Sparse, Dense}
 use Rattle.union_array.specs.declared.UnionArray.{UnionArray}
-use Rattle.union_array.specs.Types.{noColumn, byLayout}
+use Rattle.union_array.specs.Types.{byLayout}
 use Rattle.union_array.specs.Buffers.{Buffers, buffersOf, onlyMasks, amountsOf}
 use Rattle.union_array.specs.Slots.{inUse, childAt, slotAt, present, nullsIn, nullIn, slotNull}
-use Rattle.union_array.specs.Questions.{maskIn}
+use Rattle.union_array.specs.Questions.{validId, maskIn}
 use Rattle.union_array.specs.Lookup.{orNone}
 use Rattle.union_array.proofs.Columns.{all-found}
 use Rattle.union_array.proofs.Accepted.{AllAccepted, all-accepted, column-at, slots-at}
 use Rattle.null_route.specs.Route.{fullyNull, fullyNulls}
 use Rattle.null_route.specs.declared.Field.{Field}
 use Rattle.null_route.specs.declared.Fields.{Fields}
-use Rattle.null_route.specs.Fields.{noField, stateOf, fieldOf, fieldAt, fieldsOf, asColumn, noFields, inList}
+use Rattle.null_route.specs.Fields.{noField, stateOf, fieldOf, fieldAt, asColumn, noFields, inList}
 use Rattle.null_route.proofs.FieldStates.{fields-in, many-all, none-present, not-full}
-use Rattle.logical_nulls.specs.Mask.{LogicalNulls, masked, maskedBy, answerOn}
-use Rattle.logical_nulls.specs.Steps.{wordsOf, stepAt, FieldsReady}
+use Rattle.logical_nulls.specs.Mask.{LogicalNulls, withWords, maskedBy, answerOn}
+use Rattle.logical_nulls.specs.Steps.{wordsOf, stepAt, Held, ValidIds, FieldsReady}
 use Rattle.logical_nulls.specs.Table.{tableOf, childSlot, gatheredAt, Gathers}
 use Rattle.logical_nulls.specs.Ready.{reads, Ready}
 use Rattle.logical_nulls.proofs.Strategies.{its-child, its-slot, its-bit, one-is, without-is, fully-is}
-use Rattle.logical_nulls.proofs.Entries.{valid-plain, id-ok, gathered-is, gathers}
+use Rattle.logical_nulls.proofs.Entries.{id-ok, gathered-is, gathers}
 use Rattle.logical_nulls.proofs.Writing.{words-ext, words-written}
 
 pub not-sparse : (l : Layout) (b : Bool) → byLayout l b false ≡ true → (l ≡ Sparse)
@@ -108,37 +107,33 @@ module _ (a : UnionArray) (fs : Fields) (route : ℕ) (ids offsets : List ℤ) (
       pick false true f g k i x p q s = q
       pick false false f g k i x p q s = s
 
-  -- no field's id is below 0
-  plain-field : (q : ℕ) → q < a .fields → T (nonNeg (getD (fieldsOf a (onlyMasks masks) .list) q noField .id))
-  plain-field q l =
+  pub few-fields : fs .count ≤ 128
+  few-fields = subst (λ (x : Fields). x .count ≤ 128) (sym (r .fields)) few
+
+  -- each field's id is one of 0 to 127
+  pub valid-fields : ValidIds fs
+  valid-fields = subst ValidIds (sym (r .fields)) (λ q l.
       let b : q < length (a .columns) = omega (arith, few) in
-      subst (λ (x : Field). T (nonNeg (x .id))) (sym (retable-at (a .fields) (fieldAt (onlyMasks masks) (a .columns)) noFields q noField l))
-      (valid-plain (getD (a .columns) q noColumn .id) (column-at a (amountsOf m) (y .array) q l b .valid) .0)
+      ap (λ (x : Field). validId (x .id)) (retable-at (a .fields) (fieldAt (onlyMasks masks) (a .columns)) noFields q noField l) ∙ column-at a (amountsOf m) (y .array) q l b .valid)
 
   -- what a step needs
   pub steps-on : a .layout ≡ Sparse → FieldsReady fs masks ids (a .start) (a .count)
-  steps-on e = subst (λ (x : Fields). FieldsReady x masks ids (a .start) (a .count)) (sym (r .fields)) record {
+  steps-on e = record {
     slots = record { lent = y .array .ids; plain = λ i l. id-ok a m y i l .0 };
-    few = few;
-    named = plain-field;
-    held = λ q l.
+    few = few-fields;
+    valid = valid-fields;
+    held = subst (λ (x : Fields). (q : ℕ) → q < x .count → Held masks (a .count) (getD (x .list) q noField)) (sym (r .fields)) (λ q l.
         let b : q < length (a .columns) = omega (arith, few) in
         let f = retable-at (a .fields) (fieldAt (onlyMasks masks) (a .columns)) noFields q noField l in (
           subst (λ (x : Field). maskIn (asColumn x) (length masks) ≡ true) (sym f) (column-at a (amountsOf m) (y .array) q l b .mask),
           subst (λ (x : Field). a .count ≤ x .slots) (sym f) (omega (arith, slots-at a (amountsOf m) (y .array) e q l b)),
-        );
+        ));
   }
 
   pub some-fields : 1 ≤ fs .count
   some-fields = subst (λ (x : Fields). 1 ≤ x .count) (sym (r .fields)) (r .some)
 
   -- gathering
-  pub few-fields : fs .count ≤ 128
-  few-fields = subst (λ (x : Fields). x .count ≤ 128) (sym (r .fields)) few
-
-  pub plain-ids : (q : ℕ) → q < fs .count → T (nonNeg (getD (fs .list) q noField .id))
-  plain-ids = subst (λ (x : Fields). (q : ℕ) → q < x .count → T (nonNeg (getD (x .list) q noField .id))) (sym (r .fields)) plain-field
-
   module _ (t : List Field) (e : t ≡ tableOf (inList fs)) where
     the-table : t ≡ tableOf (map (fieldOf m) (inUse a))
     the-table = e ∙ ap tableOf the-fields
@@ -161,7 +156,7 @@ module _ (a : UnionArray) (fs : Fields) (route : ℕ) (ids offsets : List ℤ) (
   count-in o e = omega (arith, ap length e, written-length (a .count) (slotNull a (reads ids offsets masks)) out (r .lent), r .lent)
 
   pub answered : (o : List ℕ) (n : ℕ) (x : LogicalNulls) → 1 ≤ route → o ≡ written (a .count) (slotNull a (reads ids offsets masks)) out → n ≡ nullsOf o 0 (a .count) → x ≡ answerOn route n
-      → masked x o ≡ maskedBy a (reads ids offsets masks) route out
+      → withWords x o ≡ maskedBy a (reads ids offsets masks) route out
   unfolding maskedBy
   answered o n x h e q p =
-      ap₂ masked (p ∙ ap (answerOn route) (q ∙ counts o e)) (e ∙ sym (ap (λ (b : Bool). cond b out (written (a .count) (slotNull a (reads ids offsets masks)) out)) (ne-eqb route 0 (λ z. absurd (omega arith)))))
+      ap₂ withWords (p ∙ ap (answerOn route) (q ∙ counts o e)) (e ∙ sym (ap (λ (b : Bool). cond b out (written (a .count) (slotNull a (reads ids offsets masks)) out)) (ne-eqb route 0 (λ z. absurd (omega arith)))))

@@ -14,15 +14,15 @@ use Rattle.union_array.specs.Buffers.{onlyMasks}
 use Rattle.union_array.specs.Slots.{presenceChunk}
 use Rattle.null_route.specs.declared.Field.{Field}
 use Rattle.null_route.specs.Fields.{noField, asColumn}
-use Rattle.logical_nulls.specs.Steps.{Taken, All, WithNulls, NotFull, takes, wordOf, skipOneAt, skipWithoutAt, skipFullyAt, stepAt, overOf, orOf, inverse, fieldMask, skipOneWord, skipWithoutWord, skipFullyWord, stepWord, Named}
-use Rattle.logical_nulls.proofs.Marking.{word-selection, selectedTo, presentTo, selected-none, present-none, selected-more, present-more, one-word, without-word, fully-word}
+use Rattle.logical_nulls.specs.Steps.{Taken, All, WithNulls, NotFull, takes, wordOf, skipOneAt, skipWithoutAt, skipFullyAt, stepAt, overOf, orOf, inverse, fieldMask, skipOneWord, skipWithoutWord, skipFullyWord, stepWord, HaveIds}
+use Rattle.logical_nulls.proofs.Selecting.{word-selection, selectedTo, presentTo, selected-none, present-none, selected-more, present-more, one-word, without-word, fully-word}
 
 -- the presence chunk of field q
 abbrev pub chunkAt : List Field → List ℕ → ℕ → ℕ → ℕ → ℕ
 chunkAt fl masks len k q = presenceChunk (asColumn (getD fl q noField)) (onlyMasks masks) len k
 
 module _ (fields chunks : List ℕ) (fl : List Field) (count : ℕ) (masks : List ℕ) (ids : List ℤ) (s len k n : ℕ) (few : count ≤ length fl) (en : n ≡ min 64 (len - 64 * k))
-    (named : Named fl fields count) (held : (q : ℕ) → q < count → getD chunks q 0 ≡ chunkAt fl masks len k q) where
+    (named : HaveIds fl fields count) (held : (q : ℕ) → q < count → getD chunks q 0 ≡ chunkAt fl masks len k q) where
   module _ (over : Taken) (fits : (q : ℕ) → q < count → takes over (getD fl q noField .state) ≡ true) (a : ℕ) where
     -- the first m fields from place a on
     selected-to : (m : ℕ) → a + m ≤ count → orOf m (λ q. fieldMask fields ids (s + 64 * k) n (a + q)) ≡ selectedTo over fl masks ids s len k a (a + m)

@@ -26,7 +26,7 @@ use Rattle.null_route.specs.declared.Field.{Field}
 use Rattle.null_route.specs.Fields.{noField, stateOf, fieldOf}
 use Rattle.null_route.proofs.FieldStates.{all-present, none-present}
 use Rattle.logical_nulls.specs.Steps.{any, fieldPresent, skipOneAt, skipWithoutAt, skipFullyAt}
-use Rattle.logical_nulls.proofs.Marking.{any-ext, any-less}
+use Rattle.logical_nulls.proofs.Selecting.{any-ext, any-less}
 
 not-yes : (b : Bool) → not b ≡ true → b ≡ false
 not-yes true e = absurd (false≢true e)

@@ -11,7 +11,7 @@ use Rattle.bitmap.specs.Bits.{wordsFor, written}
 use Rattle.bitmap.proofs.Tables.{retable-ext}
 use Rattle.logical_nulls.specs.Mask.{presentOn, answerOn}
 use Rattle.logical_nulls.specs.Steps.{wordOf, wordsOf}
-use Rattle.logical_nulls.proofs.Marking.{word-ext, word-none}
+use Rattle.logical_nulls.proofs.Selecting.{word-ext, word-none}
 
 module _ (len : ℕ) where
   -- a word of the mask has a slot

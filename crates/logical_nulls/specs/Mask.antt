@@ -5,13 +5,14 @@ use Prim.Native.Nat.{ℕ}
 use lib.Dec.{eqb, leb}
 use lib.ListN.{length}
 use Rattle.bitmap.specs.Bits.{count, wordsFor, written}
+use Rattle.union_array.specs.declared.Layout.{Layout}
 use Rattle.union_array.specs.declared.UnionArray.{UnionArray}
 use Rattle.union_array.specs.Types.{byLayout}
 use Rattle.union_array.specs.Buffers.{Buffers}
 use Rattle.union_array.specs.Refusal.{no, _then_, ifYes}
 use Rattle.union_array.specs.Slots.{slotNull}
 use Rattle.union_array.specs.Questions.{checked}
-use Rattle.null_route.specs.Setting.{question12}
+use Rattle.null_route.specs.Setting.{settingNumber, settingOf}
 use Rattle.null_route.specs.Route.{withNulls, routeOf}
 pub use Rattle.logical_nulls.specs.declared.LogicalNulls.{LogicalNulls}
 pub use Rattle.logical_nulls.specs.declared.SparseStrategy.{SparseStrategy}
@@ -22,8 +23,9 @@ pub record Masked : Type 0 where
   pub answer : LogicalNulls
   pub out : List ℕ
 
-abbrev pub masked : LogicalNulls → List ℕ → Masked
-masked answer out = record { answer = answer; out = out }
+-- the two put together
+abbrev pub withWords : LogicalNulls → List ℕ → Masked
+withWords answer out = record { answer = answer; out = out }
 
 -- 13. Enough words lent for the mask (also asked on routes 0 to 2)?
 abbrev pub question13 : UnionArray → ℕ → Bool
@@ -39,15 +41,19 @@ answerOn route nulls = record { nulls = cond (presentOn route nulls) nulls 0; re
 
 -- "Bit i is clear exactly if slot i's child slot is null." "Routes 1 to 6 write ..; Route 0 writes nothing."
 unfoldable pub maskedBy : UnionArray → Buffers → ℕ → List ℕ → Masked
-maskedBy a m route out = masked (answerOn route (count (a .count) (slotNull a m))) (cond (eqb route 0) out (written (a .count) (slotNull a m) out))
+maskedBy a m route out = withWords (answerOn route (count (a .count) (slotNull a m))) (cond (eqb route 0) out (written (a .count) (slotNull a m) out))
 
--- a refused call: "all other answer fields 0 and lent memory untouched"
+-- a refused call answers "all other answer fields 0"
+abbrev pub refusedWith : ℕ → LogicalNulls
+refusedWith n = record { nulls = 0; refusal = n; route = 0; present = false }
+
+-- and leaves "lent memory untouched"
 abbrev pub notMasked : ℕ → List ℕ → Masked
-notMasked n out = masked (record { nulls = 0; refusal = n; route = 0; present = false }) out
+notMasked n out = withWords (refusedWith n) out
 
--- "the null mask 7, 8, 12, 13", after 1 to 6
+-- "the null mask 7, 8, 12, 13", after 1 to 6; 12 is the number of a refused setting
 abbrev pub nullsChecked : UnionArray → Buffers → ℕ → ℕ → ℕ
-nullsChecked a m cost lent = checked a m then no 12 (question12 cost) then no 13 (question13 a lent)
+nullsChecked a m cost lent = checked a m then settingNumber (settingOf cost) then no 13 (question13 a lent)
 
 -- the null mask at a gather cost, over the words lent for it
 unfoldable pub logicalNullsOf : UnionArray → Buffers → ℕ → List ℕ → Masked
@@ -61,16 +67,20 @@ strategyRoute SkipOne = 4
 strategyRoute SkipWithoutNulls = 5
 strategyRoute SkipFullyNull = 6
 
--- "sparse unless Gather; M = N for SkipOne"
-abbrev pub applies : SparseStrategy → UnionArray → Buffers → Bool
-applies Gather a m = true
-applies SkipOne a m = byLayout (a .layout) (eqb (withNulls a m) (a .fields)) false
-applies SkipWithoutNulls a m = byLayout (a .layout) true false
-applies SkipFullyNull a m = byLayout (a .layout) true false
+-- "sparse unless Gather; M = N for SkipOne", by N and M
+abbrev pub applies : SparseStrategy → Layout → ℕ → ℕ → Bool
+applies Gather layout n m = true
+applies SkipOne layout n m = byLayout layout (eqb m n) false
+applies SkipWithoutNulls layout n m = byLayout layout true false
+applies SkipFullyNull layout n m = byLayout layout true false
+
+-- "two or more fields", and that
+unfoldable pub mayRun : SparseStrategy → Layout → ℕ → ℕ → Bool
+mayRun s layout n m = leb 2 n && applies s layout n m
 
 -- 14. Named strategy: two or more fields; sparse unless Gather; M = N for SkipOne?
 unfoldable pub question14 : SparseStrategy → UnionArray → Buffers → Bool
-question14 s a m = leb 2 (a .fields) && applies s a m
+question14 s a m = mayRun s (a .layout) (a .fields) (withNulls a m)
 
 -- "a named strategy 7, 8, 14, 13", after 1 to 6
 abbrev pub strategyChecked : UnionArray → Buffers → SparseStrategy → ℕ → ℕ

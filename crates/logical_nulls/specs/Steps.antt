@@ -1,25 +1,25 @@
 -- The bit of slot i by each strategy that selects by type ids, and words of such bits.
 use mathlib.Core.Path.{_≡_}
 use mathlib.Core.Bool.{Bool, true, false, cond, not, _&&_, _||_}
-use mathlib.Core.List.{List, [], _∷_}
+use mathlib.Core.List.{List, [], _∷_, _++_, map}
 use Prim.Native.Nat.{ℕ, zero, suc, _+_, _-_, _*_, _%_, _^_, _≤_, _<_}
 use lib.Dec.{T, eqb, ltb}
-use lib.IntN.{ℤ, pos}
-use lib.ListN.{getD, take, drop, length}
+use lib.IntN.{ℤ, pos, natAbs}
+use lib.ListN.{getD, take, drop, replicate, length}
 use lib.Bits.{bitAnd, bitOr}
 use lib.Signed.{nonNeg}
 use Rattle.bitmap.specs.Lists.{retable}
 use Rattle.bitmap.specs.Bits.{pack, wordsFor, sameId, selectionOf}
 use Rattle.union_array.specs.Buffers.{onlyMasks}
 use Rattle.union_array.specs.Slots.{present}
-use Rattle.union_array.specs.Questions.{maskIn}
+use Rattle.union_array.specs.Questions.{validId, maskIn}
 use Rattle.null_route.specs.declared.Field.{Field}
 use Rattle.null_route.specs.declared.Fields.{Fields}
-use Rattle.null_route.specs.Fields.{noField, asColumn}
+use Rattle.null_route.specs.Fields.{noField, noFields, asColumn}
 pub use Rattle.logical_nulls.specs.declared.Taken.{Taken}
 pub use Rattle.logical_nulls.specs.declared.Taken.the-variants.{All, WithNulls, NotFull}
 pub use Rattle.logical_nulls.specs.declared.TakenFields.{TakenFields}
-pub use Rattle.logical_nulls.specs.declared.Marks.{Marks}
+pub use Rattle.logical_nulls.specs.declared.Selection.{Selection}
 
 -- some field passes
 unfoldable pub any : (Field → Bool) → List Field → Bool
@@ -44,6 +44,7 @@ takes All s = true
 takes WithNulls s = ltb 0 s
 takes NotFull s = ltb s 2
 
+-- the type id of slot i
 abbrev pub idAt : List ℤ → ℕ → ℕ → ℤ
 idAt ids start i = getD ids (start + i) (pos 0)
 
@@ -96,9 +97,9 @@ inverse x = (2 ^ 64 - 1) - x
 abbrev pub fieldMask : List ℕ → List ℤ → ℕ → ℕ → ℕ → ℕ
 fieldMask fields ids s n q = selectionOf ids s n (pos (getD fields q 0))
 
--- of the fields from place `from` on
-abbrev pub marksOf : List ℕ → List ℕ → ℕ → ℕ → List ℤ → ℕ → ℕ → Marks
-marksOf fields chunks from count ids s n = record {
+-- of the fields from place `from` on: the slots that they have, and those of them that are present
+abbrev pub selectedFrom : List ℕ → List ℕ → ℕ → ℕ → List ℤ → ℕ → ℕ → Selection
+selectedFrom fields chunks from count ids s n = record {
   selected = orOf (count - from) (λ q. fieldMask fields ids s n (from + q));
   present = orOf (count - from) (λ q. bitAnd (fieldMask fields ids s n (from + q)) (getD chunks (from + q) 0));
 }
@@ -106,19 +107,20 @@ marksOf fields chunks from count ids s n = record {
 -- SkipOne: of another field and present, or of no other field and in the first chunk
 unfoldable pub skipOneWord : List ℕ → List ℕ → ℕ → List ℤ → ℕ → ℕ → ℕ
 skipOneWord fields chunks count ids s n =
-    let m = marksOf fields chunks 1 count ids s n in
-    bitOr (m .present) (bitAnd (inverse (m .selected)) (getD chunks 0 0))
+    let t = selectedFrom fields chunks 1 count ids s n in
+    bitOr (t .present) (bitAnd (inverse (t .selected)) (getD chunks 0 0))
 
 -- SkipWithoutNulls: of a field and present, or of no field; cut to the n slots
 unfoldable pub skipWithoutWord : List ℕ → List ℕ → ℕ → List ℤ → ℕ → ℕ → ℕ
 skipWithoutWord fields chunks count ids s n =
-    let m = marksOf fields chunks 0 count ids s n in
-    bitOr (m .present) (inverse (m .selected)) % 2 ^ n
+    let t = selectedFrom fields chunks 0 count ids s n in
+    bitOr (t .present) (inverse (t .selected)) % 2 ^ n
 
 -- SkipFullyNull: of a field and present
 unfoldable pub skipFullyWord : List ℕ → List ℕ → ℕ → List ℤ → ℕ → ℕ → ℕ
-skipFullyWord fields chunks count ids s n = marksOf fields chunks 0 count ids s n .present
+skipFullyWord fields chunks count ids s n = selectedFrom fields chunks 0 count ids s n .present
 
+-- the word by the step of a route
 unfoldable pub stepWord : ℕ → List ℕ → List ℕ → ℕ → List ℤ → ℕ → ℕ → ℕ
 stepWord route fields chunks count ids s n =
     cond (eqb route 5) (skipWithoutWord fields chunks count ids s n)
@@ -126,6 +128,11 @@ stepWord route fields chunks count ids s n =
 
 -- ---- what the functions need and give
 
+-- 128 zeros
+unfoldable pub noIds : List ℕ
+noIds = replicate 128 0
+
+-- the fields in use of an answer of `taken_fields`
 abbrev pub inTaken : TakenFields → List Field
 inTaken t = take (t .count) (t .list)
 
@@ -134,16 +141,15 @@ unfoldable pub takenOf : Taken → List Field → List Field
 takenOf over [] = []
 takenOf over (f ∷ fs) = cond (takes over (f .state)) (f ∷ takenOf over fs) (takenOf over fs)
 
--- the first `count` fields have these ids
-abbrev pub Named : List Field → List ℕ → ℕ → Type 0
-Named fs ids count = (q : ℕ) → q < count → (getD fs q noField .id ≡ pos (getD ids q 0)) × (getD ids q 0 < 128)
+-- they and their ids, and after them the zeros that the arrays were made with
+unfoldable pub takenFieldsOf : Taken → List Field → TakenFields
+takenFieldsOf over fs =
+    let l = takenOf over fs in
+    record { list = l ++ drop (length l) noFields; ids = map (λ f. natAbs (f .id)) l ++ drop (length l) noIds; count = length l }
 
--- t has the fields of a list that are taken up, and their ids
-pub record Took (over : Taken) (fs : List Field) (t : TakenFields) : Type 0 where
-  pub few : t .count ≤ 128
-  pub size : t .count ≡ length (takenOf over fs)
-  pub list : inTaken t ≡ takenOf over fs
-  pub named : Named (t .list) (t .ids) (t .count)
+-- the first `count` fields have these ids
+abbrev pub HaveIds : List Field → List ℕ → ℕ → Type 0
+HaveIds fs ids count = (q : ℕ) → q < count → (getD fs q noField .id ≡ pos (getD ids q 0)) × (getD ids q 0 < 128)
 
 -- n type ids are lent, of which none is below 0
 pub record LentIds (ids : List ℤ) (start n : ℕ) : Type 0 where
@@ -167,12 +173,16 @@ pub record TakenReady (route : ℕ) (t : TakenFields) (masks : List ℕ) (ids : 
   pub few : t .count ≤ 128
   pub some : overOf route ≡ All → 1 ≤ t .count
   pub fits : (q : ℕ) → q < t .count → takes (overOf route) (getD (t .list) q noField .state) ≡ true
-  pub named : Named (t .list) (t .ids) (t .count)
+  pub named : HaveIds (t .list) (t .ids) (t .count)
   pub held : (q : ℕ) → q < t .count → Held masks len (getD (t .list) q noField)
+
+-- each field's id is one of 0 to 127
+abbrev pub ValidIds : Fields → Type 0
+ValidIds fs = (q : ℕ) → q < fs .count → validId (getD (fs .list) q noField .id) ≡ true
 
 -- what they need of all fields
 pub record FieldsReady (fs : Fields) (masks : List ℕ) (ids : List ℤ) (start len : ℕ) : Type 0 where
   pub slots : LentIds ids start len
   pub few : fs .count ≤ 128
-  pub named : (q : ℕ) → q < fs .count → T (nonNeg (getD (fs .list) q noField .id))
+  pub valid : ValidIds fs
   pub held : (q : ℕ) → q < fs .count → Held masks len (getD (fs .list) q noField)

@@ -24,16 +24,18 @@ abbrev pub store : Bool → List Field → ℕ → Field → List Field
 store true t i f = set t i f
 store false t i f = t
 
+-- each field of a list in turn
 unfoldable pub stored : List Field → List Field → List Field
 stored t [] = t
 stored t (f ∷ fs) = stored (store (ltb 0 (f .state)) t (natAbs (f .id)) f) fs
 
+-- 256 no-nulls entries, and then those
 unfoldable pub tableOf : List Field → List Field
 tableOf fs = stored (replicate 256 withoutNulls) fs
 
 -- the entry for slot i
-abbrev pub entryAt : List Field → List ℤ → ℕ → ℕ → Field
-entryAt table ids start i = getD table (natAbs (idAt ids start i)) noField
+abbrev pub tableEntry : List Field → List ℤ → ℕ → ℕ → Field
+tableEntry table ids start i = getD table (natAbs (idAt ids start i)) noField
 
 -- the child slot of slot i, where the offsets start at place `from`
 abbrev pub childSlot : Layout → List ℤ → ℕ → ℕ → ℕ
@@ -41,7 +43,7 @@ childSlot layout offsets from i = byLayout layout i (natAbs (getD offsets (from 
 
 -- Gather: the entry's bit
 unfoldable pub gatheredAt : List Field → List ℕ → List ℤ → ℕ → (ℕ → ℕ) → ℕ → Bool
-gatheredAt table masks ids start slot i = fieldPresent masks (slot i) (entryAt table ids start i)
+gatheredAt table masks ids start slot i = fieldPresent masks (slot i) (tableEntry table ids start i)
 
 -- a dense union's offsets are lent, and none is negative
 abbrev pub Reach : Layout → List ℤ → ℕ → ℕ → Type 0
@@ -53,4 +55,4 @@ pub record Gathers (table : List Field) (masks : List ℕ) (ids : List ℤ) (sta
   pub lent : start + len ≤ length ids
   pub reach : Reach layout offsets from len
   pub plain : (i : ℕ) → i < len → T (nonNeg (idAt ids start i))
-  pub within : (i : ℕ) → i < len → (childSlot layout offsets from i < entryAt table ids start i .slots) × (maskIn (asColumn (entryAt table ids start i)) (length masks) ≡ true)
+  pub within : (i : ℕ) → i < len → (childSlot layout offsets from i < tableEntry table ids start i .slots) × (maskIn (asColumn (tableEntry table ids start i)) (length masks) ≡ true)

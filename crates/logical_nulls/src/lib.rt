@@ -1,10 +1,10 @@
 // The null mask of a union array: its strategies, its words.
 pub mod mask;
 pub mod named;
-pub mod steps;
-pub mod table;
-pub mod taking;
-pub mod words;
+mod steps;
+mod table;
+mod taking;
+mod words;
 
 use null_route::Field;
 pub use null_route::Processor;
@@ -27,21 +27,21 @@ pub struct LogicalNulls {
 }
 
 // The fields that a strategy takes up: all, those with a null, or those that are not fully null.
-pub enum Taken {
+pub(crate) enum Taken {
     All,
     WithNulls,
     NotFull,
 }
 
 // Those fields, in list order, and their ids: the first `count` entries of each.
-pub struct TakenFields {
-    pub list: [Field; 128],
-    pub ids: [u8; 128],
-    pub count: usize,
+pub(crate) struct TakenFields {
+    list: [Field; 128],
+    ids: [u8; 128],
+    count: usize,
 }
 
 // Of a run of slots: a word of those that the fields taken up have, and one of those of them that are present.
-pub struct Marks {
-    pub selected: u64,
-    pub present: u64,
+pub(crate) struct Selection {
+    selected: u64,
+    present: u64,
 }

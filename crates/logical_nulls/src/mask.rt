@@ -1,8 +1,8 @@
 // The null mask of a union array.
 ghost use mathlib.Core.Path.{_≡_};
 ghost use Rattle.union_array.specs.Buffers.{buffersOf};
-ghost use Rattle.logical_nulls.specs.Mask.{masked, logicalNullsOf};
-ghost use Rattle.logical_nulls.specs.Ready.{refusedWith};
+ghost use Rattle.logical_nulls.specs.Mask.{withWords, refusedWith, logicalNullsOf};
+ghost use Rattle.logical_nulls.specs.Ready.{absent};
 use crate::LogicalNulls;
 use crate::words;
 use null_route::Processor;
@@ -13,12 +13,24 @@ use union_array::UnionArray;
 use union_array::check;
 
 // What a refused call answers.
-pub fn refused(n: u8) -> LogicalNulls
+pub(crate) fn refused(n: u8) -> LogicalNulls
     ensures { λ r. ⌜ r ≡ refusedWith n ⌝ }
 {
     LogicalNulls {
         nulls: 0,
         refusal: n,
+        route: 0,
+        present: false,
+    }
+}
+
+// What is answered on route 0.
+fn absent() -> LogicalNulls
+    ensures { λ r. ⌜ r ≡ absent ⌝ }
+{
+    LogicalNulls {
+        nulls: 0,
+        refusal: 0,
         route: 0,
         present: false,
     }
@@ -35,7 +47,7 @@ pub fn logical_nulls(
     names: &[u8],
     out: &mut [u64],
 ) -> LogicalNulls
-    ensures { λ r. ⌜ masked r (now (out .exit)) ≡ logicalNullsOf array (buffersOf (now («type_ids» .entry)) (now (offsets .entry)) (now (values .entry)) (now (masks .entry)) (now (names .entry))) cost (now (out .entry)) ⌝ }
+    ensures { λ r. ⌜ withWords r (now (out .exit)) ≡ logicalNullsOf array (buffersOf (now («type_ids» .entry)) (now (offsets .entry)) (now (values .entry)) (now (masks .entry)) (now (names .entry))) cost (now (out .entry)) ⌝ }
 {
     let no = check::check(array, type_ids, offsets, values, masks, names);
     if no != 0 {
@@ -50,9 +62,9 @@ pub fn logical_nulls(
     }
     let fs = states::fields_of(array, masks);
     let layout = array.layout;
-    let route = route::route_for(layout, fs, processor.cost);
+    let route = route::route_for(layout, fs, processor.cost());
     if route == 0 {
-        return refused(0);
+        return absent();
     }
     words::run_route(array, fs, route, masks, type_ids, offsets, out)
 }

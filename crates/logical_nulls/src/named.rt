@@ -3,8 +3,7 @@ ghost use mathlib.Core.Path.{_≡_};
 ghost use mathlib.Core.Bool.{true, false};
 ghost use Rattle.union_array.specs.Types.{byLayout};
 ghost use Rattle.union_array.specs.Buffers.{buffersOf};
-ghost use Rattle.logical_nulls.specs.Mask.{Gather, SkipOne, SkipWithoutNulls, SkipFullyNull, masked, strategyRoute, strategyOf};
-ghost use Rattle.logical_nulls.specs.Ready.{mayRunOn, mayRun};
+ghost use Rattle.logical_nulls.specs.Mask.{withWords, strategyRoute, applies, mayRun, strategyOf};
 use crate::LogicalNulls;
 use crate::SparseStrategy;
 use crate::mask;
@@ -26,7 +25,7 @@ fn is_sparse(layout: Layout) -> bool
 
 // Whether a strategy is one for a union of n fields, of which `some` have a null.
 fn applies(strategy: SparseStrategy, layout: Layout, n: usize, some: usize) -> bool
-    ensures { λ r. ⌜ r ≡ mayRunOn strategy layout n some ⌝ }
+    ensures { λ r. ⌜ r ≡ applies strategy layout n some ⌝ }
 {
     match strategy {
         SparseStrategy::Gather => true,
@@ -69,7 +68,7 @@ pub fn run_strategy(
     names: &[u8],
     out: &mut [u64],
 ) -> LogicalNulls
-    ensures { λ r. ⌜ masked r (now (out .exit)) ≡ strategyOf array (buffersOf (now («type_ids» .entry)) (now (offsets .entry)) (now (values .entry)) (now (masks .entry)) (now (names .entry))) strategy (now (out .entry)) ⌝ }
+    ensures { λ r. ⌜ withWords r (now (out .exit)) ≡ strategyOf array (buffersOf (now («type_ids» .entry)) (now (offsets .entry)) (now (values .entry)) (now (masks .entry)) (now (names .entry))) strategy (now (out .entry)) ⌝ }
 {
     let no = check::check(array, type_ids, offsets, values, masks, names);
     if no != 0 {
@@ -85,100 +84,4 @@ pub fn run_strategy(
     }
     let route = route_of(strategy);
     words::run_route(array, fs, route, masks, type_ids, offsets, out)
-}
-
-// Gather, named.
-pub fn gather(
-    array: UnionArray,
-    type_ids: &[i8],
-    offsets: &[i32],
-    values: &[u64],
-    masks: &[u64],
-    names: &[u8],
-    out: &mut [u64],
-) -> LogicalNulls
-    ensures { λ r. ⌜ masked r (now (out .exit)) ≡ strategyOf array (buffersOf (now («type_ids» .entry)) (now (offsets .entry)) (now (values .entry)) (now (masks .entry)) (now (names .entry))) Gather (now (out .entry)) ⌝ }
-{
-    run_strategy(
-        array,
-        SparseStrategy::Gather,
-        type_ids,
-        offsets,
-        values,
-        masks,
-        names,
-        out,
-    )
-}
-
-// SkipOne, named.
-pub fn skip_one(
-    array: UnionArray,
-    type_ids: &[i8],
-    offsets: &[i32],
-    values: &[u64],
-    masks: &[u64],
-    names: &[u8],
-    out: &mut [u64],
-) -> LogicalNulls
-    ensures { λ r. ⌜ masked r (now (out .exit)) ≡ strategyOf array (buffersOf (now («type_ids» .entry)) (now (offsets .entry)) (now (values .entry)) (now (masks .entry)) (now (names .entry))) SkipOne (now (out .entry)) ⌝ }
-{
-    run_strategy(
-        array,
-        SparseStrategy::SkipOne,
-        type_ids,
-        offsets,
-        values,
-        masks,
-        names,
-        out,
-    )
-}
-
-// SkipWithoutNulls, named.
-pub fn skip_without_nulls(
-    array: UnionArray,
-    type_ids: &[i8],
-    offsets: &[i32],
-    values: &[u64],
-    masks: &[u64],
-    names: &[u8],
-    out: &mut [u64],
-) -> LogicalNulls
-    ensures { λ r. ⌜ masked r (now (out .exit)) ≡ strategyOf array (buffersOf (now («type_ids» .entry)) (now (offsets .entry)) (now (values .entry)) (now (masks .entry)) (now (names .entry))) SkipWithoutNulls (now (out .entry)) ⌝ }
-{
-    run_strategy(
-        array,
-        SparseStrategy::SkipWithoutNulls,
-        type_ids,
-        offsets,
-        values,
-        masks,
-        names,
-        out,
-    )
-}
-
-// SkipFullyNull, named.
-pub fn skip_fully_null(
-    array: UnionArray,
-    type_ids: &[i8],
-    offsets: &[i32],
-    values: &[u64],
-    masks: &[u64],
-    names: &[u8],
-    out: &mut [u64],
-) -> LogicalNulls
-    ensures { λ r. ⌜ masked r (now (out .exit)) ≡ strategyOf array (buffersOf (now («type_ids» .entry)) (now (offsets .entry)) (now (values .entry)) (now (masks .entry)) (now (names .entry))) SkipFullyNull (now (out .entry)) ⌝ }
-{
-    run_strategy(
-        array,
-        SparseStrategy::SkipFullyNull,
-        type_ids,
-        offsets,
-        values,
-        masks,
-        names,
-        out,
-    )
 }

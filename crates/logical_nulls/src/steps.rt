@@ -2,11 +2,11 @@
 // `start` on, and the presence chunks of the `count` fields that the strategy takes up. `fields` has the fields' ids.
 ghost use mathlib.Core.Path.{_≡_};
 ghost use Prim.Native.Nat.{_≤_};
-ghost use Rattle.logical_nulls.specs.Steps.{marksOf, skipOneWord, skipWithoutWord, skipFullyWord, RunReady};
-use crate::Marks;
+ghost use Rattle.logical_nulls.specs.Steps.{selectedFrom, skipOneWord, skipWithoutWord, skipFullyWord, RunReady};
+use crate::Selection;
 
 // The slots of the fields from place `from` on, and those of them that are present.
-fn mark(
+fn select(
     fields: &[u8; 128],
     chunks: &[u64; 128],
     from: usize,
@@ -14,9 +14,9 @@ fn mark(
     ids: &[i8],
     start: usize,
     n: usize,
-) -> Marks
+) -> Selection
     requires { ⌜ RunReady (now fields) count (now ids) start n × (from ≤ count) ⌝ }
-    ensures { λ r. ⌜ r ≡ marksOf (now (fields .entry)) (now (chunks .entry)) from count (now (ids .entry)) start n ⌝ }
+    ensures { λ r. ⌜ r ≡ selectedFrom (now (fields .entry)) (now (chunks .entry)) from count (now (ids .entry)) start n ⌝ }
 {
     let selections = bitmap::selection_masks(ids, start, n);
     let mut selected: u64 = 0;
@@ -29,11 +29,11 @@ fn mark(
         present |= is_field & chunks[q];
         q += 1;
     }
-    Marks { selected, present }
+    Selection { selected, present }
 }
 
 // SkipOne: the first field has the slots that no other has.
-pub fn skip_one(
+pub(crate) fn skip_one(
     fields: &[u8; 128],
     chunks: &[u64; 128],
     count: usize,
@@ -44,12 +44,12 @@ pub fn skip_one(
     requires { ⌜ RunReady (now fields) count (now ids) start n × (1 ≤ count) ⌝ }
     ensures { λ r. ⌜ r ≡ skipOneWord (now (fields .entry)) (now (chunks .entry)) count (now (ids .entry)) start n ⌝ }
 {
-    let m = mark(fields, chunks, 1, count, ids, start, n);
-    m.present | (!m.selected & chunks[0])
+    let s = select(fields, chunks, 1, count, ids, start, n);
+    s.present | (!s.selected & chunks[0])
 }
 
 // SkipWithoutNulls: a slot that no field with a null has is present.
-pub fn skip_without_nulls(
+pub(crate) fn skip_without_nulls(
     fields: &[u8; 128],
     chunks: &[u64; 128],
     count: usize,
@@ -60,12 +60,12 @@ pub fn skip_without_nulls(
     requires { ⌜ RunReady (now fields) count (now ids) start n ⌝ }
     ensures { λ r. ⌜ r ≡ skipWithoutWord (now (fields .entry)) (now (chunks .entry)) count (now (ids .entry)) start n ⌝ }
 {
-    let m = mark(fields, chunks, 0, count, ids, start, n);
-    bitmap::low(m.present | !m.selected, n)
+    let s = select(fields, chunks, 0, count, ids, start, n);
+    bitmap::low(s.present | !s.selected, n)
 }
 
 // SkipFullyNull: a slot of a fully null field is null.
-pub fn skip_fully_null(
+pub(crate) fn skip_fully_null(
     fields: &[u8; 128],
     chunks: &[u64; 128],
     count: usize,
@@ -76,6 +76,6 @@ pub fn skip_fully_null(
     requires { ⌜ RunReady (now fields) count (now ids) start n ⌝ }
     ensures { λ r. ⌜ r ≡ skipFullyWord (now (fields .entry)) (now (chunks .entry)) count (now (ids .entry)) start n ⌝ }
 {
-    let m = mark(fields, chunks, 0, count, ids, start, n);
-    m.present
+    let s = select(fields, chunks, 0, count, ids, start, n);
+    s.present
 }

@@ -1,14 +1,10 @@
 // Gather: a table with one entry to each type id, read as an unsigned byte, and a bit looked up for each slot.
 ghost use mathlib.Core.Path.{_≡_};
-ghost use mathlib.Core.Bool.{true};
-ghost use Prim.Native.Nat.{ℕ, _+_, _^_, _<_, _≤_};
-ghost use lib.Dec.{T};
-ghost use lib.ListN.{length, getD};
-ghost use lib.IntN.{pos};
-ghost use lib.Signed.{nonNeg};
+ghost use Prim.Native.Nat.{_+_, _^_, _<_, _≤_};
+ghost use lib.ListN.{length};
 ghost use Rattle.bitmap.specs.Bits.{wordsFor};
-ghost use Rattle.null_route.specs.Fields.{noField, inList};
-ghost use Rattle.logical_nulls.specs.Steps.{wordsOf};
+ghost use Rattle.null_route.specs.Fields.{inList};
+ghost use Rattle.logical_nulls.specs.Steps.{wordsOf, ValidIds};
 ghost use Rattle.logical_nulls.specs.Table.{tableOf, childSlot, gatheredAt, Reach, Gathers};
 use null_route::Field;
 use null_route::Fields;
@@ -17,9 +13,9 @@ use union_array::Layout;
 use union_array::presence;
 
 // The fields with a null, each at its id. Any other entry has no null, and no slot is past it.
-pub fn fill(fs: Fields) -> [Field; 256]
+pub(crate) fn fill(fs: Fields) -> [Field; 256]
     requires { ⌜ fs .count ≤ 128 ⌝ }
-    requires { ⌜ ((q : ℕ) → q < fs .count → T (nonNeg (getD (fs .list) q noField .id))) ⌝ }
+    requires { ⌜ ValidIds fs ⌝ }
     ensures { λ r. ⌜ r ≡ tableOf (inList fs) ⌝ }
 {
     let without = Field {
@@ -57,7 +53,7 @@ fn child_slot(layout: Layout, offsets: &[i32], at: usize, i: usize) -> usize
 
 // The mask by gathering: each slot's bit is looked up by itself. Later words keep what they have. Both loops stand here, since a call
 // for each word would copy the table.
-pub fn write_gathered(
+pub(crate) fn write_gathered(
     table: [Field; 256],
     masks: &[u64],
     ids: &[i8],

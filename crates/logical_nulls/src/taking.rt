@@ -1,18 +1,15 @@
 // The fields that a strategy takes up.
 ghost use mathlib.Core.Path.{_≡_};
-ghost use Prim.Native.Nat.{ℕ, _<_, _≤_};
-ghost use lib.Dec.{T};
-ghost use lib.ListN.{getD};
-ghost use lib.Signed.{nonNeg};
-ghost use Rattle.null_route.specs.Fields.{noField, inList};
-ghost use Rattle.logical_nulls.specs.Steps.{takes, overOf, Took};
+ghost use Prim.Native.Nat.{_≤_};
+ghost use Rattle.null_route.specs.Fields.{inList};
+ghost use Rattle.logical_nulls.specs.Steps.{takes, overOf, takenFieldsOf, ValidIds};
 use crate::Taken;
 use crate::TakenFields;
 use null_route::Field;
 use null_route::Fields;
 
 // What the strategy of a route takes up.
-pub fn over_of(route: u8) -> Taken
+pub(crate) fn over_of(route: u8) -> Taken
     ensures { λ r. ⌜ r ≡ overOf route ⌝ }
 {
     if route == 5 {
@@ -35,11 +32,11 @@ fn takes(over: Taken, state: u8) -> bool
     }
 }
 
-// The fields that are taken up.
-pub fn taken_fields(fs: Fields, over: Taken) -> TakenFields
+// The fields that are taken up, and zeros after them.
+pub(crate) fn taken_fields(fs: Fields, over: Taken) -> TakenFields
     requires { ⌜ fs .count ≤ 128 ⌝ }
-    requires { ⌜ ((q : ℕ) → q < fs .count → T (nonNeg (getD (fs .list) q noField .id))) ⌝ }
-    ensures { λ r. ⌜ Took over (inList fs) r ⌝ }
+    requires { ⌜ ValidIds fs ⌝ }
+    ensures { λ r. ⌜ r ≡ takenFieldsOf over (inList fs) ⌝ }
 {
     let none = Field {
         mask: 0,

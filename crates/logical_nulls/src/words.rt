@@ -8,7 +8,7 @@ ghost use Rattle.union_array.specs.Types.{byLayout};
 ghost use Rattle.bitmap.specs.Bits.{wordsFor, written};
 ghost use Rattle.union_array.specs.Slots.{slotNull};
 ghost use Rattle.null_route.specs.Fields.{inList};
-ghost use Rattle.logical_nulls.specs.Mask.{masked, maskedBy, presentOn, answerOn};
+ghost use Rattle.logical_nulls.specs.Mask.{withWords, maskedBy, presentOn, answerOn};
 ghost use Rattle.logical_nulls.specs.Steps.{All, inTaken, overOf, stepWord, wordsOf, stepAt, RunReady, TakenReady, FieldsReady};
 ghost use Rattle.logical_nulls.specs.Ready.{reads, Ready};
 use crate::LogicalNulls;
@@ -180,7 +180,7 @@ fn write_mask(
 }
 
 // The null mask of an accepted array, written, and its answer.
-pub fn run_route(
+pub(crate) fn run_route(
     array: UnionArray,
     fs: Fields,
     route: u8,
@@ -190,7 +190,7 @@ pub fn run_route(
     out: &mut [u64],
 ) -> LogicalNulls
     requires { ⌜ Ready array fs route (now ids) (now offsets) (now masks) (now out) × (1 ≤ route) ⌝ }
-    ensures { λ r. ⌜ masked r (now (out .exit)) ≡ maskedBy array (reads (now (ids .entry)) (now (offsets .entry)) (now (masks .entry))) route (now (out .entry)) ⌝ }
+    ensures { λ r. ⌜ withWords r (now (out .exit)) ≡ maskedBy array (reads (now (ids .entry)) (now (offsets .entry)) (now (masks .entry))) route (now (out .entry)) ⌝ }
 {
     write_mask(array, fs, route, masks, ids, offsets, out);
     let counted = bitmap::null_count(out, 0, 0, array.count);

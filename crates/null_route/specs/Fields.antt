@@ -1,22 +1,22 @@
 -- What the strategies read of an array's fields, as the code holds it.
-use mathlib.Core.Bool.{Bool, false, cond}
+use mathlib.Core.Path.{_≡_}
+use mathlib.Core.Bool.{false, cond}
 use mathlib.Core.List.{List}
 use Prim.Native.Nat.{ℕ}
-use lib.Dec.{eqb, leb}
 use lib.IntN.{pos}
 use lib.ListN.{getD, take, replicate}
-use Rattle.bitmap.specs.Bits.{digit}
 use Rattle.bitmap.specs.Lists.{retable}
 use Rattle.union_array.specs.declared.Kind.the-variants.{Int8}
 use Rattle.union_array.specs.declared.Layout.{Layout}
 use Rattle.union_array.specs.declared.Column.{Column}
 use Rattle.union_array.specs.declared.UnionArray.{UnionArray}
-use Rattle.union_array.specs.Types.{noColumn, byLayout}
+use Rattle.union_array.specs.Types.{noColumn}
 use Rattle.union_array.specs.Buffers.{Buffers}
-use Rattle.null_route.specs.Route.{hasNull, fullyNull, withNulls, fullyNulls, sparseRoute}
+use Rattle.null_route.specs.Route.{hasNull, fullyNull, withNulls, fullyNulls}
 pub use Rattle.null_route.specs.declared.Field.{Field}
 pub use Rattle.null_route.specs.declared.Fields.{Fields}
 
+-- a field of zeros
 abbrev pub noField : Field
 noField = record { mask = 0; slots = 0; bit = 0; id = pos 0; state = 0; masked = false }
 
@@ -24,6 +24,7 @@ noField = record { mask = 0; slots = 0; bit = 0; id = pos 0; state = 0; masked =
 unfoldable pub stateOf : Buffers → Column → ℕ
 stateOf m c = cond (hasNull m c) (cond (fullyNull m c) 2 1) 0
 
+-- what is read of a column
 abbrev pub fieldOf : Buffers → Column → Field
 fieldOf m c = record { mask = c .mask; slots = c .slots; bit = c .bit; id = c .id; state = stateOf m c; masked = c .masked }
 
@@ -35,20 +36,21 @@ asColumn f = record { values = 0; mask = f .mask; name = 0; slots = f .slots; bi
 abbrev pub fieldAt : Buffers → List Column → ℕ → Field
 fieldAt m cs q = fieldOf m (getD cs q noColumn)
 
+-- 128 of zeros
 unfoldable pub noFields : List Field
 noFields = replicate 128 noField
 
+-- the fields of an array and after them zeros, N, M and F
 abbrev pub fieldsOf : UnionArray → Buffers → Fields
 fieldsOf a m = record { list = retable (a .fields) (fieldAt m (a .columns)) noFields; count = a .fields; some = withNulls a m; full = fullyNulls a m }
 
+-- the fields in use
 abbrev pub inList : Fields → List Field
 inList fs = take (fs .count) (fs .list)
 
--- the route by N, whether the first field has a mask, M and F
-unfoldable pub routeBy : Layout → ℕ → Bool → ℕ → ℕ → ℕ → ℕ
-routeBy layout n masked m f gather =
-    cond (leb n 1) (digit masked) (cond (eqb m 0) 0 (cond (eqb f n) 2 (byLayout layout (sparseRoute gather n m f) 3)))
-
--- the same for the fields of an array
-abbrev pub routeFor : Layout → Fields → ℕ → ℕ
-routeFor layout fs gather = routeBy layout (fs .count) (getD (fs .list) 0 noField .masked) (fs .some) (fs .full) gather
+-- the fields are those of an array of this layout
+pub record Described (layout : Layout) (fs : Fields) : Type 0 where
+  pub array : UnionArray
+  pub buffers : Buffers
+  pub laidOut : layout ≡ array .layout
+  pub fields : fs ≡ fieldsOf array buffers

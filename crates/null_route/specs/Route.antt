@@ -1,5 +1,5 @@
 -- The route of the null mask: "the route to M, F, N and the setting". A text in quotes is document 01's.
-use mathlib.Core.Bool.{Bool, true, false, cond, not, _&&_}
+use mathlib.Core.Bool.{Bool, true, cond, not, _&&_}
 use mathlib.Core.List.{List, [], _∷_}
 use Prim.Native.Nat.{ℕ, _+_, _-_}
 use lib.Dec.{eqb, leb, ltb}
@@ -16,9 +16,11 @@ abbrev pub howMany : (Column → Bool) → List Column → ℕ
 howMany p [] = 0
 howMany p (c ∷ cs) = digit (p c) + howMany p cs
 
+-- a child with a null
 abbrev pub hasNull : Buffers → Column → Bool
 hasNull m c = not (eqb (nullsIn c m) 0)
 
+-- a child that is fully null
 abbrev pub fullyNull : Buffers → Column → Bool
 fullyNull m c = isFullyNull (nullsIn c m) (c .slots)
 
@@ -50,5 +52,6 @@ manyFieldsRoute a m gather =
     (cond (eqb (fullyNulls a m) (a .fields)) 2
     (byLayout (a .layout) (sparseRoute gather (a .fields) (withNulls a m) (fullyNulls a m)) 3))
 
+-- the route of the null mask at a gather cost
 unfoldable pub routeOf : UnionArray → Buffers → ℕ → ℕ
 routeOf a m gather = cond (leb (a .fields) 1) (oneFieldRoute a) (manyFieldsRoute a m gather)

@@ -1,6 +1,6 @@
 // The processor setting: four constants, and a constructor that refuses other numbers.
 ghost use mathlib.Core.Path.{_≡_};
-ghost use Rattle.null_route.specs.Setting.{settingOf};
+ghost use Rattle.null_route.specs.Setting.{settingTold, settingAnswer};
 use crate::Processor;
 use crate::Setting;
 
@@ -15,20 +15,27 @@ impl Processor {
 
     // The setting of a gather cost.
     pub fn new(cost: usize) -> Setting
-        ensures { λ r. ⌜ r ≡ settingOf cost ⌝ }
+        ensures { λ r. ⌜ settingTold r ≡ settingAnswer cost ⌝ }
     {
         if cost == 10 {
-            return Setting::Of(Processor { cost });
+            return Setting::Of(Processor::AVX2);
         }
         if cost == 3 {
-            return Setting::Of(Processor { cost });
+            return Setting::Of(Processor::SSE4_1);
         }
         if cost == 2 {
-            return Setting::Of(Processor { cost });
+            return Setting::Of(Processor::X86);
         }
         if cost == 0 {
-            return Setting::Of(Processor { cost });
+            return Setting::Of(Processor::OTHER);
         }
         Setting::Refused
+    }
+
+    // The gather cost.
+    pub fn cost(self) -> usize
+        ensures { λ r. ⌜ r ≡ self .cost ⌝ }
+    {
+        self.cost
     }
 }

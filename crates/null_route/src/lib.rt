@@ -1,11 +1,11 @@
 // The route of the null mask: the processor setting, the fields' states, the strategy of least cost.
-pub mod cost;
+mod cost;
 pub mod route;
 pub mod states;
 
 // The processor setting: what gathering costs, against one selection mask a chunk.
 pub struct Processor {
-    pub cost: usize,
+    cost: usize,
 }
 
 // What `Processor::new` answers.

@@ -1,8 +1,10 @@
 // The route of the null mask.
 ghost use mathlib.Core.Path.{_≡_};
 ghost use Prim.Native.Nat.{_≤_};
-ghost use Rattle.null_route.specs.Route.{cheaper, sparseRoute};
-ghost use Rattle.null_route.specs.Fields.{routeBy, routeFor};
+ghost use Rattle.union_array.specs.declared.UnionArray.{UnionArray};
+ghost use Rattle.union_array.specs.Buffers.{Buffers};
+ghost use Rattle.null_route.specs.Route.{cheaper, sparseRoute, routeOf};
+ghost use Rattle.null_route.specs.Fields.{fieldsOf, Described};
 use crate::Choice;
 use crate::Fields;
 use union_array::Layout;
@@ -34,31 +36,24 @@ fn sparse_route(gather: usize, n: usize, some: usize, full: usize) -> u8
     best.route
 }
 
-// The route for n fields, the first of which has a mask or not.
-fn route_by(layout: Layout, n: usize, masked: bool, some: usize, full: usize, gather: usize) -> u8
-    requires { ⌜ full ≤ n ⌝ }
-    ensures { λ r. ⌜ r ≡ routeBy layout n masked some full gather ⌝ }
+// The route for the fields of an array.
+pub fn route_for(layout: Layout, fs: Fields, gather: usize) -> u8
+    requires { ⌜ Described layout fs ⌝ }
+    ensures { λ r. ⌜ ((a : UnionArray) (m : Buffers) → layout ≡ a .layout → fs ≡ fieldsOf a m → r ≡ routeOf a m gather) ⌝ }
 {
+    let n = fs.count;
     if n <= 1 {
-        return masked as u8;
+        let first = fs.list[0];
+        return first.masked as u8;
     }
-    if some == 0 {
+    if fs.some == 0 {
         return 0;
     }
-    if full == n {
+    if fs.full == n {
         return 2;
     }
     match layout {
-        Layout::Sparse => sparse_route(gather, n, some, full),
+        Layout::Sparse => sparse_route(gather, n, fs.some, fs.full),
         Layout::Dense => 3,
     }
-}
-
-// The route for the fields of an array.
-pub fn route_for(layout: Layout, fs: Fields, gather: usize) -> u8
-    requires { ⌜ fs .full ≤ fs .count ⌝ }
-    ensures { λ r. ⌜ r ≡ routeFor layout fs gather ⌝ }
-{
-    let first = fs.list[0];
-    route_by(layout, fs.count, first.masked, fs.some, fs.full, gather)
 }

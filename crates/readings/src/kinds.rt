@@ -9,7 +9,7 @@ use decimal::integer;
 use decimal::write;
 use decimal::write_float;
 use union_array::Kind;
-ghost use Prim.Native.Nat.{_≤_};
+ghost use Prim.Native.Nat.{_+_, _*_, _<_, _≤_};
 ghost use lib.ListN.{length};
 
 pub enum Named {
@@ -96,20 +96,36 @@ pub fn bits_of(text: &[u8], kind: Kind) -> Bits {
     decimal_bits(text, kind)
 }
 
+// A number's text at the start of `out`; answers its length.
+fn natural_text(n: u64, out: &mut [u8]) -> usize
+    requires { ⌜ 40 ≤ length (now out) ⌝ }
+    ensures { λ r. ⌜ r ≤ 40 ⌝ }
+{
+    write::write_natural(n, out)
+}
+
+// The text of the integer that the bits are in two's complement, at most `highest`, at the start of `out`; answers its length.
+fn integer_text(bits: u64, highest: u64, out: &mut [u8]) -> usize
+    requires { ⌜ (bits < 2 * highest + 2) × (2 * highest + 2 ≤ 18446744073709551616) × (40 ≤ length (now out)) ⌝ }
+    ensures { λ r. ⌜ r ≤ 40 ⌝ }
+{
+    write::write_integer(bits, highest, out)
+}
+
 // A value's text at the start of `out`; answers its length.
 pub fn value_text(bits: u64, kind: Kind, out: &mut [u8]) -> usize
     requires { ⌜ 40 ≤ length (now out) ⌝ }
     ensures { λ r. ⌜ r ≤ 40 ⌝ }
 {
     match kind {
-        Kind::Int8 => write::write_integer(bitmap::low(bits, 8), 0x7f, out),
-        Kind::Int16 => write::write_integer(bitmap::low(bits, 16), 0x7fff, out),
-        Kind::Int32 => write::write_integer(bitmap::low(bits, 32), 0x7fff_ffff, out),
-        Kind::Int64 => write::write_integer(bits, 0x7fff_ffff_ffff_ffff, out),
-        Kind::UInt8 => write::write_natural(bits, out),
-        Kind::UInt16 => write::write_natural(bits, out),
-        Kind::UInt32 => write::write_natural(bits, out),
-        Kind::UInt64 => write::write_natural(bits, out),
+        Kind::Int8 => integer_text(bitmap::low(bits, 8), 0x7f, out),
+        Kind::Int16 => integer_text(bitmap::low(bits, 16), 0x7fff, out),
+        Kind::Int32 => integer_text(bitmap::low(bits, 32), 0x7fff_ffff, out),
+        Kind::Int64 => integer_text(bits, 0x7fff_ffff_ffff_ffff, out),
+        Kind::UInt8 => natural_text(bits, out),
+        Kind::UInt16 => natural_text(bits, out),
+        Kind::UInt32 => natural_text(bits, out),
+        Kind::UInt64 => natural_text(bits, out),
         Kind::Float32 => write_float::write_float(bitmap::low(bits, 32), Format::Binary32, out),
         Kind::Float64 => write_float::write_float(bits, Format::Binary64, out),
     }

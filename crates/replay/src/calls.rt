@@ -1,67 +1,125 @@
 // The calls of a case, in order. The answer of each is a line.
+use crate::builders;
+use crate::builders::Subject;
+use crate::describe;
+use crate::describe::Call;
+use crate::describe::Places;
+use crate::lists;
 use crate::masks as null_masks;
 use crate::numbers;
 use crate::slots;
 use crate::whole;
-use union_array::UnionArray;
 
-// A call, and the array after it.
-pub fn call(
-    a: UnionArray,
-    op: u64,
-    n: u64,
-    m: u64,
+// Calls 1 to 15, on the array and on lent memory.
+fn asked(
+    s: Subject,
+    c: Call,
     ids: &[i8],
     offsets: &[i32],
     values: &[u64],
     masks: &[u64],
     names: &[u8],
-) -> UnionArray {
-    let i = n as usize;
-    let k = m as usize;
+) -> Subject {
+    let op = c.op;
+    let a = s.array;
     match op {
-        2..=4 => slots::answer(a, op, i, ids, offsets, values, masks, names),
-        9 => return whole::slice(a, i, k, ids, offsets, values, masks, names),
-        10..=11 => null_masks::answer(a, op, i, k, ids, offsets, values, masks, names),
-        _ => whole::answer(a, op, n, ids, offsets, values, masks, names),
+        2..=4 => slots::answer(a, c, ids, offsets, values, masks, names),
+        9 => {
+            let builder = s.builder;
+            let array = whole::slice(a, c, ids, offsets, values, masks, names);
+            return Subject { builder, array };
+        }
+        10..=11 => null_masks::answer(a, c, ids, offsets, values, masks, names),
+        _ => whole::answer(a, c, ids, offsets, values, masks, names),
     }
-    a
+    s
 }
 
-// The call whose three numbers are at a place.
-fn call_at(
-    a: UnionArray,
+// A call over the memory lent to it, and what the next calls are made on.
+fn call(
+    s: Subject,
     words: &[u64],
-    at: usize,
-    ids: &[i8],
-    offsets: &[i32],
-    values: &[u64],
-    masks: &[u64],
-    names: &[u8],
-) -> UnionArray {
-    let op = numbers::get(words, at);
-    let n = numbers::get(words, numbers::past(at, 1));
-    let m = numbers::get(words, numbers::past(at, 2));
-    call(a, op, n, m, ids, offsets, values, masks, names)
+    readings: usize,
+    text: &[u8],
+    c: Call,
+    ids: &mut [i8],
+    offsets: &mut [i32],
+    values: &mut [u64],
+    masks: &mut [u64],
+    names: &mut [u8],
+) -> Subject {
+    let op = c.op;
+    match op {
+        20..=21 => builders::made(s, c, ids, offsets, values, masks, names),
+        22..=23 => builders::appended(
+            s,
+            words,
+            readings,
+            text,
+            c,
+            ids,
+            offsets,
+            values,
+            masks,
+            names,
+        ),
+        24 => builders::counted(s, c),
+        25..=26 => builders::finished(s, c, ids, offsets, values, masks, names),
+        _ => asked(s, c, ids, offsets, values, masks, names),
+    }
 }
 
-// The n calls from a place on; answers the place after them.
+// A call, lent of each part what the case lends to it.
+fn lent_call(
+    s: Subject,
+    words: &[u64],
+    p: Places,
+    text: &[u8],
+    c: Call,
+    ids: &mut [i8],
+    offsets: &mut [i32],
+    values: &mut [u64],
+    masks: &mut [u64],
+    names: &mut [u8],
+) -> Subject {
+    let some_ids = lists::lent(words, p.ids, c.short == 1, ids.len());
+    let some_offsets = lists::lent(words, p.offsets, c.short == 2, offsets.len());
+    let some_values = lists::lent(words, p.values, c.short == 3, values.len());
+    let some_masks = lists::lent(words, p.masks, c.short == 4, masks.len());
+    let some_names = lists::lent(words, p.names, c.short == 5, names.len());
+    call(
+        s,
+        words,
+        p.readings,
+        text,
+        c,
+        &mut ids[0..some_ids],
+        &mut offsets[0..some_offsets],
+        &mut values[0..some_values],
+        &mut masks[0..some_masks],
+        &mut names[0..some_names],
+    )
+}
+
+// The calls of a case; answers the place after them.
 pub fn run(
-    array: UnionArray,
+    start: Subject,
     words: &[u64],
-    start: usize,
-    n: usize,
-    ids: &[i8],
-    offsets: &[i32],
-    values: &[u64],
-    masks: &[u64],
-    names: &[u8],
+    p: Places,
+    text: &[u8],
+    ids: &mut [i8],
+    offsets: &mut [i32],
+    values: &mut [u64],
+    masks: &mut [u64],
+    names: &mut [u8],
 ) -> usize {
-    let mut a = array;
-    let mut at = start;
+    let mut s = start;
+    let mut at = numbers::past(p.calls, 1);
+    let n = numbers::count(words, p.calls);
     for _ in 0..n {
-        a = call_at(a, words, at, ids, offsets, values, masks, names);
-        at = numbers::past(at, 3);
+        let c = describe::call_at(words, at);
+        s = lent_call(s, words, p, text, c, ids, offsets, values, masks, names);
+        at = numbers::past(at, 5);
     }
     at
 }

@@ -1,4 +1,4 @@
-// A case's description of a union array, and where its lists are.
+// A case's description of a union array, where its lists are, and its calls.
 use crate::narrow;
 use crate::numbers;
 use union_array::Column;
@@ -15,7 +15,18 @@ pub struct Places {
     pub values: usize,
     pub masks: usize,
     pub names: usize,
+    pub text: usize,
+    pub readings: usize,
     pub calls: usize,
+}
+
+// A call: which one, its two arguments, whose word its answer is, and the part of memory that it is short of.
+pub struct Call {
+    pub op: u64,
+    pub a: u64,
+    pub b: u64,
+    pub by: u64,
+    pub short: u64,
 }
 
 pub fn kind_of(n: u64) -> Kind {
@@ -83,11 +94,7 @@ fn column(words: &[u64], at: usize) -> Column {
 fn column_count(words: &[u64], at: usize) -> usize
     ensures { λ r. ⌜ r ≤ 128 ⌝ }
 {
-    let n = size_at(words, at, 8);
-    if n < 128 {
-        return n;
-    }
-    128
+    numbers::least(size_at(words, at, 8), 128)
 }
 
 // The columns of the case at a place; zeros after them.
@@ -114,18 +121,38 @@ pub fn array(words: &[u64], at: usize) -> UnionArray {
     }
 }
 
+// The place after the lent memory at a place.
+fn after_lent(words: &[u64], at: usize) -> usize {
+    numbers::after(words, numbers::past(at, 1))
+}
+
 pub fn locate(words: &[u64], at: usize) -> Places {
     let ids = numbers::past(at, 9 + 9 * column_count(words, at));
-    let offsets = numbers::after(words, ids);
-    let values = numbers::after(words, offsets);
-    let masks = numbers::after(words, values);
-    let names = numbers::after(words, masks);
+    let offsets = after_lent(words, ids);
+    let values = after_lent(words, offsets);
+    let masks = after_lent(words, values);
+    let names = after_lent(words, masks);
+    let text = after_lent(words, names);
+    let readings = after_lent(words, text);
     Places {
         ids,
         offsets,
         values,
         masks,
         names,
-        calls: numbers::after(words, names),
+        text,
+        readings,
+        calls: numbers::after(words, readings),
+    }
+}
+
+// The call whose five numbers are at a place.
+pub fn call_at(words: &[u64], at: usize) -> Call {
+    Call {
+        op: numbers::get(words, at),
+        a: numbers::get(words, numbers::past(at, 1)),
+        b: numbers::get(words, numbers::past(at, 2)),
+        by: numbers::get(words, numbers::past(at, 3)),
+        short: numbers::get(words, numbers::past(at, 4)),
     }
 }

@@ -1,4 +1,6 @@
 // Calls 10 and 11: the null mask at a setting, and by a named strategy, into words of ones.
+use crate::describe::Call;
+use crate::numbers;
 use crate::print;
 use logical_nulls::LogicalNulls;
 use logical_nulls::SparseStrategy;
@@ -7,8 +9,8 @@ use logical_nulls::named;
 use union_array::UnionArray;
 
 // Whether the mask is present, its null count, its route, and the words lent, as the call left them.
-fn told(op: u64, r: LogicalNulls, out: &[u64]) {
-    print::start(op, r.refusal);
+fn told(c: Call, r: LogicalNulls, out: &[u64]) {
+    print::start(c, r.refusal);
     if r.refusal == 0 {
         print::flag(r.present);
         print::size(r.nulls);
@@ -19,7 +21,7 @@ fn told(op: u64, r: LogicalNulls, out: &[u64]) {
 }
 
 // The strategy of a route.
-fn strategy_of(route: usize) -> SparseStrategy {
+fn strategy_of(route: u64) -> SparseStrategy {
     match route {
         4 => SparseStrategy::SkipOne,
         5 => SparseStrategy::SkipWithoutNulls,
@@ -28,11 +30,10 @@ fn strategy_of(route: usize) -> SparseStrategy {
     }
 }
 
-// The null mask at setting n, or by the strategy of route n.
+// The null mask at a setting, or by the strategy of a route.
 fn nulls(
     a: UnionArray,
-    op: u64,
-    n: usize,
+    c: Call,
     ids: &[i8],
     offsets: &[i32],
     values: &[u64],
@@ -40,18 +41,18 @@ fn nulls(
     names: &[u8],
     out: &mut [u64],
 ) -> LogicalNulls {
-    if op == 10 {
-        return mask::logical_nulls(a, n, ids, offsets, values, masks, names, out);
+    if c.op == 10 {
+        let setting = c.a as usize;
+        return mask::logical_nulls(a, setting, ids, offsets, values, masks, names, out);
     }
-    let strategy = strategy_of(n);
+    let strategy = strategy_of(c.a);
     named::run_strategy(a, strategy, ids, offsets, values, masks, names, out)
 }
 
 // The answer, over the words lent.
 fn answer_in(
     a: UnionArray,
-    op: u64,
-    n: usize,
+    c: Call,
     ids: &[i8],
     offsets: &[i32],
     values: &[u64],
@@ -59,16 +60,14 @@ fn answer_in(
     names: &[u8],
     out: &mut [u64],
 ) {
-    let r = nulls(a, op, n, ids, offsets, values, masks, names, out);
-    told(op, r, out);
+    let r = nulls(a, c, ids, offsets, values, masks, names, out);
+    told(c, r, out);
 }
 
 // The answer, with at most 8 words lent.
 pub fn answer(
     a: UnionArray,
-    op: u64,
-    n: usize,
-    lent: usize,
+    c: Call,
     ids: &[i8],
     offsets: &[i32],
     values: &[u64],
@@ -76,17 +75,6 @@ pub fn answer(
     names: &[u8],
 ) {
     let mut out = [u64::MAX; 8];
-    if lent <= 8 {
-        answer_in(
-            a,
-            op,
-            n,
-            ids,
-            offsets,
-            values,
-            masks,
-            names,
-            &mut out[0..lent],
-        );
-    }
+    let lent = numbers::least(c.b as usize, 8);
+    answer_in(a, c, ids, offsets, values, masks, names, &mut out[0..lent]);
 }

@@ -1,4 +1,5 @@
 // The numbers of a text, and lists among them. A number or a list past the end is 0 or empty.
+ghost use Prim.Native.Nat.{_≤_};
 
 // A byte's digit; 10 if it is none.
 fn digit(b: u8) -> u64 {
@@ -84,18 +85,30 @@ pub fn past(at: usize, n: usize) -> usize {
     std::num::wrapping_add_usize(at, n)
 }
 
-// The list at a place: its length, then as many entries.
-pub fn list(words: &[u64], at: usize) -> &[u64] {
-    if words.len() <= at {
+pub fn least(a: usize, b: usize) -> usize
+    ensures { λ r. ⌜ r ≤ b ⌝ }
+{
+    if a < b {
+        return a;
+    }
+    b
+}
+
+// Numbers from a start on; none if they are not there.
+pub fn part(words: &[u64], start: usize, n: usize) -> &[u64] {
+    if words.len() < start {
         return &words[0..0];
     }
-    let start = at + 1;
-    let n = words[at] as usize;
     if words.len() - start < n {
         return &words[0..0];
     }
     let end = start + n;
     &words[start..end]
+}
+
+// The list at a place: its length, then as many entries.
+pub fn list(words: &[u64], at: usize) -> &[u64] {
+    part(words, past(at, 1), size(words, at))
 }
 
 // The place after the list at a place.

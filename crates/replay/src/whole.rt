@@ -1,86 +1,173 @@
-// Calls 1 and 5 to 9: what is told of the whole array, and its slices.
+// Calls 1, 5 to 9 and 12 to 15: what is told of the whole array, and its slices.
 use crate::describe;
+use crate::describe::Call;
+use crate::lists;
 use crate::narrow;
+use crate::numbers;
 use crate::print;
 use union_array::Child;
+use union_array::Column;
 use union_array::NamePlace;
 use union_array::TypeNames;
 use union_array::UnionArray;
+use union_array::questions::entry_of;
 
-// A child's kind and slots.
-fn told_child(r: Child) {
-    let c = r.column;
-    let kind = c.kind;
-    print::start(5, r.refusal);
+// A child's id, kind, slots, whether it has a mask, and name.
+fn told_child(c: Call, r: Child, names: &[u8]) {
+    let column = r.column;
+    let kind = column.kind;
+    print::start(c, r.refusal);
     if r.refusal == 0 {
+        print::size(entry_of(column.id));
         print::number(describe::kind_number(kind));
-        print::number(c.slots as u64);
+        print::number(column.slots as u64);
+        print::flag(column.masked);
+        print::name(lists::part(names, column.name, column.size as usize));
     }
     print::end();
 }
 
-// The sizes of the first n names.
-fn sizes(names: [NamePlace; 128], n: usize) {
+// The words of a child as they lie in memory.
+fn told_words(c: Call, r: Child, values: &[u64]) {
+    let column = r.column;
+    let slots = column.slots as usize;
+    print::start(c, r.refusal);
+    if r.refusal == 0 {
+        print::counted(numbers::part(values, column.values, slots));
+    }
+    print::end();
+}
+
+// The first n names, each from its place.
+fn each_name(places: [NamePlace; 128], n: usize, names: &[u8]) {
     for k in 0..128usize {
         if k < n {
-            let place = names[k];
-            print::small(place.size);
+            let place = places[k];
+            print::name(lists::part(names, place.start, place.size as usize));
         }
     }
 }
 
-// How many names there are, and their sizes.
-fn told_names(r: TypeNames) {
-    let names = r.names;
-    print::start(6, r.refusal);
+// How many names there are, and the names.
+fn told_names(c: Call, r: TypeNames, names: &[u8]) {
+    let places = r.names;
+    print::start(c, r.refusal);
     if r.refusal == 0 {
         print::size(r.count);
-        sizes(names, r.count);
+        each_name(places, r.count, names);
     }
     print::end();
 }
 
-// Calls 1 and 5 to 8. A number that names no call is printed as refused.
-pub fn answer(
+// The id and the name of each of the first n columns.
+fn each_field(columns: [Column; 128], n: usize, names: &[u8]) {
+    for k in 0..128usize {
+        if k < n {
+            let column = columns[k];
+            print::size(entry_of(column.id));
+            print::name(lists::part(names, column.name, column.size as usize));
+        }
+    }
+}
+
+// What the array lists: how many fields, and the id and the name of each.
+fn told_fields(c: Call, a: UnionArray, names: &[u8]) {
+    let columns = a.columns;
+    print::start(c, 0);
+    print::size(a.fields);
+    each_field(columns, a.fields, names);
+    print::end();
+}
+
+// The type ids that the array shows.
+fn told_ids(
     a: UnionArray,
-    op: u64,
-    n: u64,
+    c: Call,
     ids: &[i8],
     offsets: &[i32],
     values: &[u64],
     masks: &[u64],
     names: &[u8],
 ) {
+    let mut refusal = 0u8;
+    let shown = a.type_ids(&mut refusal, ids, offsets, values, masks, names);
+    print::start(c, refusal);
+    if refusal == 0 {
+        print::ids(shown);
+    }
+    print::end();
+}
+
+// Lent memory as it lies.
+fn told_lent(c: Call, ids: &[i8], offsets: &[i32], values: &[u64], masks: &[u64], names: &[u8]) {
+    print::start(c, 0);
+    print::ids(ids);
+    print::offsets(offsets);
+    print::counted(values);
+    print::counted(masks);
+    print::name(names);
+    print::end();
+}
+
+// Calls 7 and 8: whether the array is dense, and whether it has a null.
+fn told_flag(
+    a: UnionArray,
+    c: Call,
+    ids: &[i8],
+    offsets: &[i32],
+    values: &[u64],
+    masks: &[u64],
+    names: &[u8],
+) {
+    if c.op == 7 {
+        let r = a.is_dense(ids, offsets, values, masks, names);
+        print::told(c, r.refusal, r.holds as u64);
+        return;
+    }
+    let r = a.is_nullable(ids, offsets, values, masks, names);
+    print::told(c, r.refusal, r.holds as u64);
+}
+
+// Calls 1, 5 to 8 and 12 to 15. A number that names no call is printed as refused by 255.
+pub fn answer(
+    a: UnionArray,
+    c: Call,
+    ids: &[i8],
+    offsets: &[i32],
+    values: &[u64],
+    masks: &[u64],
+    names: &[u8],
+) {
+    let op = c.op;
+    let id = narrow::id(c.a);
     match op {
-        1 => print::line(1, a.try_new(ids, offsets, values, masks, names)),
-        5 => told_child(a.child(narrow::id(n), ids, offsets, values, masks, names)),
-        6 => told_names(a.type_names(ids, offsets, values, masks, names)),
-        7 => {
-            let r = a.is_dense(ids, offsets, values, masks, names);
-            print::told(7, r.refusal, r.holds as u64);
-        }
-        8 => {
-            let r = a.is_nullable(ids, offsets, values, masks, names);
-            print::told(8, r.refusal, r.holds as u64);
-        }
-        _ => print::line(op, 1),
+        1 => print::line(c, a.try_new(ids, offsets, values, masks, names)),
+        5 => told_child(c, a.child(id, ids, offsets, values, masks, names), names),
+        6 => told_names(c, a.type_names(ids, offsets, values, masks, names), names),
+        7..=8 => told_flag(a, c, ids, offsets, values, masks, names),
+        12 => told_ids(a, c, ids, offsets, values, masks, names),
+        13 => told_fields(c, a, names),
+        14 => told_words(c, a.child(id, ids, offsets, values, masks, names), values),
+        15 => told_lent(c, ids, offsets, values, masks, names),
+        _ => print::line(c, 255),
     }
 }
 
 // Call 9: a slice. A refused one leaves the array.
 pub fn slice(
     a: UnionArray,
-    start: usize,
-    count: usize,
+    c: Call,
     ids: &[i8],
     offsets: &[i32],
     values: &[u64],
     masks: &[u64],
     names: &[u8],
 ) -> UnionArray {
+    let start = c.a as usize;
+    let count = c.b as usize;
     let s = a.slice(start, count, ids, offsets, values, masks, names);
     let part = s.array;
-    print::told(9, s.refusal, part.count as u64);
+    print::told(c, s.refusal, part.count as u64);
     if s.refusal != 0 {
         return a;
     }

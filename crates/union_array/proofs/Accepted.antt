@@ -2,20 +2,19 @@
 use mathlib.Core.Bool.{Bool, true, false, not, _||_, false≢true}
 use mathlib.Core.Option.{Option, none, some}
 use mathlib.Core.Path.{_≡_, refl, sym, ap, _∙_}
-use Prim.Native.Nat.{ℕ, zero, suc, _+_, _*_, _≤_, _<_}
+use Prim.Native.Nat.{ℕ, _+_, _*_, _≤_, _<_}
 use native.Mathlib.Omega.{arith}
 use lib.Dec.{eqb, leb}
 use lib.IntN.{ℤ, pos, negsuc, natAbs}
 use lib.ListN.{length, getD}
 use borrow.Author.Tests.{leb-true, eqb-true, ltb-true}
-use Rattle.bitmap.specs.Lists.{every}
 use Rattle.bitmap.proofs.Tables.{both, every-at}
 use Rattle.union_array.specs.Types.{Layout, Sparse, Dense, Column, UnionArray, Amounts, noColumn, firstBit, byLayout}
 use Rattle.union_array.specs.Buffers.{Buffers, amountsOf}
-use Rattle.union_array.specs.Refusal.{no, _then_}
 use Rattle.union_array.specs.Slots.{inUse, all, columnOf, isSome, childAt, offsetAt, slotAt}
 use Rattle.union_array.specs.Questions.{validId, distinct, partIn, maskIn, columnIn, question1, question2, question3, question4, question5, question6, question7, question8, question10, namedAt, within, withinChild, offsetFits, asked, checked, slotChecked}
 use Rattle.union_array.specs.Lookup.{orNone}
+use Rattle.union_array.proofs.Tests.{then-zero, yes-is, yes-then}
 use Rattle.union_array.proofs.Columns.{all-at, all-found}
 
 -- ---- 1 to 6
@@ -33,16 +32,6 @@ pub record Accepted (a : UnionArray) (lent : Amounts) : Type 0 where
   pub matched : a .layout ≡ Dense → a .«offsets_count» ≡ a .count
   pub equal : a .layout ≡ Sparse → all (λ c. eqb (c .slots) (a .count)) (inUse a) ≡ true
 
-six : (a b c d e f : Bool) → (no 1 a then no 2 b then no 3 c then no 4 d then no 5 e then no 6 f) ≡ 0
-    → (a ≡ true) × (b ≡ true) × (c ≡ true) × (d ≡ true) × (e ≡ true) × (f ≡ true)
-six true true true true true true h = (refl, refl, refl, refl, refl, refl)
-six false b c d e f h = absurd (omega arith)
-six true false c d e f h = absurd (omega arith)
-six true true false d e f h = absurd (omega arith)
-six true true true false e f h = absurd (omega arith)
-six true true true true false f h = absurd (omega arith)
-six true true true true true false h = absurd (omega arith)
-
 module _ (a : UnionArray) (lent : Amounts) where
   dense-is : (b : Bool) → byLayout (a .layout) true b ≡ true → a .layout ≡ Dense → b ≡ true
   dense-is b h e = rw e at h
@@ -53,20 +42,25 @@ module _ (a : UnionArray) (lent : Amounts) where
   pub accepted : asked a lent ≡ 0 → Accepted a lent
   unfolding asked question1 question3 question4 question5 question6
   accepted h =
-      let y = six (question1 a) (question2 a) (question3 a lent) (question4 a) (question5 a) (question6 a) h in
-      let q1 = both (leb (a .fields) 128) _ (y .0) in
+      let y1 = yes-then 0 (question1 a) _ h in
+      let y2 = yes-then 1 (question2 a) _ (y1 .1) in
+      let y3 = yes-then 2 (question3 a lent) _ (y2 .1) in
+      let y4 = yes-then 3 (question4 a) _ (y3 .1) in
+      let y5 = yes-then 4 (question5 a) _ (y4 .1) in
+      let y6 = yes-is 5 (question6 a) (y5 .1) in
+      let q1 = both (leb (a .fields) 128) _ (y1 .0) in
       let i1 = both (all (λ c. validId (c .id)) (inUse a)) (distinct (inUse a)) (q1 .1) in
-      let q3 = both (partIn (a .start) (a .count) (lent .ids)) _ (y .2) in
+      let q3 = both (partIn (a .start) (a .count) (lent .ids)) _ (y3 .0) in
       let part = partIn (a .«offsets_start») (a .«offsets_count») (lent .offsets) in
       let i3 = both (byLayout (a .layout) true part) (all (columnIn lent) (inUse a)) (q3 .1) in
-      let q4 = both (leb (a .count) 65536) (all (λ c. leb (c .slots) 65536) (inUse a)) (y .3) in
+      let q4 = both (leb (a .count) 65536) (all (λ c. leb (c .slots) 65536) (inUse a)) (y4 .0) in
       let same : a .layout ≡ Dense → a .«offsets_count» ≡ a .count
-      = λ e. eqb-true (a .«offsets_count») (a .count) (dense-is (eqb (a .«offsets_count») (a .count)) (y .4) e) in
+      = λ e. eqb-true (a .«offsets_count») (a .count) (dense-is (eqb (a .«offsets_count») (a .count)) (y5 .0) e) in
       record {
         few = leb-true (a .fields) 128 (q1 .0);
         valid = i1 .0;
         alone = i1 .1;
-        children = eqb-true (a .children) (a .fields) (y .1);
+        children = eqb-true (a .children) (a .fields) (y2 .0);
         ids = leb-true (a .start + a .count) (lent .ids) (q3 .0);
         offsets =
             λ e.
@@ -77,7 +71,7 @@ module _ (a : UnionArray) (lent : Amounts) where
         count = leb-true (a .count) 65536 (q4 .0);
         slots = q4 .1;
         matched = same;
-        equal = sparse-is (all (λ c. eqb (c .slots) (a .count)) (inUse a)) (y .5);
+        equal = sparse-is (all (λ c. eqb (c .slots) (a .count)) (inUse a)) y6;
       }
 
 -- ---- one column
@@ -181,35 +175,25 @@ pub record AllAccepted (a : UnionArray) (m : Buffers) : Type 0 where
   pub array : Accepted a (amountsOf m)
   pub slot : (i : ℕ) → i < a .count → SlotAccepted a m i
 
-three : (n : ℕ) (b c : Bool) → (n then no 7 b then no 8 c) ≡ 0 → (n ≡ 0) × (b ≡ true) × (c ≡ true)
-three zero true true h = (refl, refl, refl)
-three zero false c h = absurd (omega arith)
-three zero true false h = absurd (omega arith)
-three (suc n) b c h = absurd (omega arith)
-
-four : (n : ℕ) (a b c : Bool) → (n then no 10 a then no 7 b then no 8 c) ≡ 0 → (n ≡ 0) × (a ≡ true) × (b ≡ true) × (c ≡ true)
-four zero true true true h = (refl, refl, refl, refl)
-four zero false b c h = absurd (omega arith)
-four zero true false c h = absurd (omega arith)
-four zero true true false h = absurd (omega arith)
-four (suc n) a b c h = absurd (omega arith)
-
 module _ (a : UnionArray) (m : Buffers) where
   pub all-accepted : checked a m ≡ 0 → AllAccepted a m
   unfolding checked question7 question8
   all-accepted h =
-      let y = three (asked a (amountsOf m)) (question7 a m) (question8 a m) h in
+      let y = then-zero (asked a (amountsOf m)) _ h in
+      let y7 = yes-then 6 (question7 a m) _ (y .1) in
       record {
         array = accepted a (amountsOf m) (y .0);
         slot = λ i l. record {
           low = l;
-          named = every-at (a .count) (namedAt a m) (y .1) i l;
-          fits = every-at (a .count) (offsetFits a m) (y .2) i l;
+          named = every-at (a .count) (namedAt a m) (y7 .0) i l;
+          fits = every-at (a .count) (offsetFits a m) (yes-is 7 (question8 a m) (y7 .1)) i l;
         };
       }
 
   pub slot-accepted : (i : ℕ) → slotChecked a m i ≡ 0 → Accepted a (amountsOf m) × SlotAccepted a m i
   unfolding slotChecked
   slot-accepted i h =
-      let y = four (asked a (amountsOf m)) (question10 a i) (namedAt a m i) (offsetFits a m i) h in
-      (accepted a (amountsOf m) (y .0), record { low = ltb-true i (a .count) (y .1); named = y .2; fits = y .3 })
+      let y = then-zero (asked a (amountsOf m)) _ h in
+      let y10 = yes-then 9 (question10 a i) _ (y .1) in
+      let y7 = yes-then 6 (namedAt a m i) _ (y10 .1) in
+      (accepted a (amountsOf m) (y .0), record { low = ltb-true i (a .count) (y10 .0); named = y7 .0; fits = yes-is 7 (offsetFits a m i) (y7 .1) })

@@ -1,5 +1,6 @@
 -- Laws that belong to no one function.
 pub mod Tests
+pub mod FirstNo
 pub mod Signed
 pub mod Columns
 pub mod OnePass
@@ -7,6 +8,7 @@ pub mod Accepted
 pub mod SlotTable
 pub mod Checked
 pub mod Present
+pub mod KindLaws
 pub mod Values
 pub mod ChildSlots
 pub mod Known

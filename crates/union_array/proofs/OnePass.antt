@@ -1,7 +1,7 @@
 -- Laws of the one pass: a column more, the first no by the least, and the whole answer.
-use mathlib.Core.Bool.{Bool, true, false, cond, not, _&&_, _||_}
+use mathlib.Core.Bool.{Bool, true, false, cond, not, _&&_, _||_, and-true, and-comm, and-assoc, or-and-distrib-left}
 use mathlib.Core.Option.{none, some}
-use mathlib.Core.List.{List, [], _∷_, _++_}
+use mathlib.Core.List.{List, [], _∷_, _++_, map}
 use mathlib.Core.Path.{_≡_, refl, sym, ap, _∙_}
 use Prim.Native.Nat.{ℕ, zero, suc, _+_, _≤_, _<_}
 use native.Mathlib.Omega.{arith}
@@ -19,44 +19,19 @@ use Rattle.union_array.specs.Lookup.{orNone}
 use Rattle.union_array.specs.Look.{notLooked, lookOf}
 use Rattle.union_array.specs.Pass.{Head, Passed, isDense, arrayOf, entryOf, faultOf, columnFault, columnsFault, leastOf, passOf, headFault, firstNo}
 use Rattle.union_array.proofs.Tests.{refused-is}
+use Rattle.union_array.proofs.FirstNo.{least-row, row-zero}
 use Rattle.union_array.proofs.Columns.{orElse, take-more, all-more, column-more, named-more, distinct-more}
 
+-- as rows of 1 to 6 in which 2 and 5, asked of no column, are answered yes
 least-fault : (a b c d a′ b′ c′ d′ : Bool) → leastOf (faultOf a b c d) (faultOf a′ b′ c′ d′) ≡ faultOf (a && a′) (b && b′) (c && c′) (d && d′)
-least-fault false b c d false b′ c′ d′ = refl
-least-fault false b c d true false c′ d′ = refl
-least-fault false b c d true true false d′ = refl
-least-fault false b c d true true true false = refl
-least-fault false b c d true true true true = refl
-least-fault true false c d false b′ c′ d′ = refl
-least-fault true false c d true false c′ d′ = refl
-least-fault true false c d true true false d′ = refl
-least-fault true false c d true true true false = refl
-least-fault true false c d true true true true = refl
-least-fault true true false d false b′ c′ d′ = refl
-least-fault true true false d true false c′ d′ = refl
-least-fault true true false d true true false d′ = refl
-least-fault true true false d true true true false = refl
-least-fault true true false d true true true true = refl
-least-fault true true true false false b′ c′ d′ = refl
-least-fault true true true false true false c′ d′ = refl
-least-fault true true true false true true false d′ = refl
-least-fault true true true false true true true false = refl
-least-fault true true true false true true true true = refl
-least-fault true true true true false b′ c′ d′ = refl
-least-fault true true true true true false c′ d′ = refl
-least-fault true true true true true true false d′ = refl
-least-fault true true true true true true true false = refl
-least-fault true true true true true true true true = refl
+least-fault a b c d a′ b′ c′ d′ =
+    least-row 7 0 ((a, a′) ∷ (true, true) ∷ (b, b′) ∷ (c, c′) ∷ (true, true) ∷ (d, d′) ∷ []) (omega arith)
 
 swap : (a b c d : Bool) → (a && b) && (c && d) ≡ (a && c) && (b && d)
 swap true true c d = refl
 swap true false true d = refl
 swap true false false d = refl
 swap false b c d = refl
-
-or-and : (a b c : Bool) → (a || b) && (a || c) ≡ a || (b && c)
-or-and true b c = refl
-or-and false b c = refl
 
 -- ---- the table of ids seen
 
@@ -118,7 +93,7 @@ module _ (lent : Amounts) (n : ℕ) (dense : Bool) (cs : List Column) (c : Colum
         all-more short cs c,
         all-more equal cs c,
         ← swap (all valid cs) (distinct cs) (valid c) (not (isSome (columnOf cs (c .id)))),
-        ← or-and dense (all equal cs) (equal c),
+        or-and-distrib-left dense (all equal cs) (equal c),
       )
       (least-fault (all valid cs && distinct cs) (all (columnIn lent) cs) (all short cs) (dense || all equal cs)
       (valid c && not (isSome (columnOf cs (c .id)))) (columnIn lent c) (short c) (dense || equal c))
@@ -194,40 +169,18 @@ module _ (lent : Amounts) (n : ℕ) (dense : Bool) (id : ℤ) (cs : List Column)
 
 -- ---- the first no
 
+-- the columns are asked 1, 3, 4 and 6, the rest of the array 2, 3, 4 and 5
 chain : (a b c d q2 p o n4 s5 : Bool)
-    → cond (eqb (leastOf (faultOf a b c d) (no 2 q2 then no 3 p then no 3 o then no 4 n4 then no 5 s5 then 7)) 7) 0
-    (leastOf (faultOf a b c d) (no 2 q2 then no 3 p then no 3 o then no 4 n4 then no 5 s5 then 7))
-    ≡ (no 1 a then no 2 q2 then no 3 (p && (o && b)) then no 4 (n4 && c) then no 5 s5 then no 6 d)
-chain false b c d false p o n4 s5 = refl
-chain false b c d true false o n4 s5 = refl
-chain false b c d true true false n4 s5 = refl
-chain false b c d true true true false s5 = refl
-chain false b c d true true true true false = refl
-chain false b c d true true true true true = refl
-chain true false c d false p o n4 s5 = refl
-chain true false c d true false o n4 s5 = refl
-chain true false c d true true false n4 s5 = refl
-chain true false c d true true true false s5 = refl
-chain true false c d true true true true false = refl
-chain true false c d true true true true true = refl
-chain true true false d false p o n4 s5 = refl
-chain true true false d true false o n4 s5 = refl
-chain true true false d true true false n4 s5 = refl
-chain true true false d true true true false s5 = refl
-chain true true false d true true true true false = refl
-chain true true false d true true true true true = refl
-chain true true true false false p o n4 s5 = refl
-chain true true true false true false o n4 s5 = refl
-chain true true true false true true false n4 s5 = refl
-chain true true true false true true true false s5 = refl
-chain true true true false true true true true false = refl
-chain true true true false true true true true true = refl
-chain true true true true false p o n4 s5 = refl
-chain true true true true true false o n4 s5 = refl
-chain true true true true true true false n4 s5 = refl
-chain true true true true true true true false s5 = refl
-chain true true true true true true true true false = refl
-chain true true true true true true true true true = refl
+    → let k = leastOf (faultOf a b c d) (no 2 q2 then no 3 (p && o) then no 4 n4 then no 5 s5 then 7) in
+    cond (eqb k 7) 0 k ≡ (no 1 a then no 2 q2 then no 3 (p && (o && b)) then no 4 (n4 && c) then no 5 s5 then no 6 d)
+chain a b c d q2 p o n4 s5 =
+    let both : List (Bool × Bool) = (a, true) ∷ (true, q2) ∷ (b, p && o) ∷ (c, n4) ∷ (true, s5) ∷ (d, true) ∷ [] in
+    ap (λ (k : ℕ). cond (eqb k 7) 0 k) (least-row 7 0 both (omega arith)) ∙ row-zero 7 0 (map (λ p. p .0 && p .1) both) (omega arith)
+    ∙ rw (and-true a, and-comm b (p && o), and-assoc p o b, and-comm c n4, last d)
+  where
+    last : (d : Bool) → (no 6 (d && true) then 0) ≡ no 6 d
+    last true = refl
+    last false = refl
 
 by-dense : (l : Layout) (b : Bool) → byLayout l b true ≡ isDense l || b
 by-dense Sparse b = refl

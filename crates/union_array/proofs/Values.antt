@@ -1,4 +1,4 @@
--- What a lookup reads: a value's width, a name with zeros after it, a child's slot. Assumes nothing.
+-- What a lookup reads: a name with zeros after it, a child's slot. Assumes nothing.
 use mathlib.Core.Path.{_≡_, refl, sym, ap, _∙_}
 use mathlib.Core.Bool.{Bool, true, false}
 use mathlib.Core.List.{List, [], _∷_, _++_, append-assoc}
@@ -11,23 +11,11 @@ use lib.Seq.{take-suc, set-at, length-take-le, take-append-add}
 use lib.Dec.{leb}
 use borrow.Author.Tests.{leb-true}
 use Rattle.bitmap.proofs.Tables.{both}
-use Rattle.union_array.specs.Types.{Kind, Int8, Int16, Int32, Int64, UInt8, UInt16, UInt32, UInt64, Float32, Float64, Column, Amounts, widthOf, lowBits}
+use Rattle.union_array.specs.Types.{Column, Amounts, widthOf, lowBits}
 use Rattle.union_array.specs.Buffers.{Buffers, buffersOf, amountsOf}
 use Rattle.union_array.specs.Slots.{present}
 use Rattle.union_array.specs.Questions.{partIn, maskIn, columnIn}
 use Rattle.union_array.specs.Lookup.{Value, padded, columnValue}
-
-pub width-le : (k : Kind) → widthOf k ≤ 64
-width-le Int8 = omega arith
-width-le Int16 = omega arith
-width-le Int32 = omega arith
-width-le Int64 = omega arith
-width-le UInt8 = omega arith
-width-le UInt16 = omega arith
-width-le UInt32 = omega arith
-width-le UInt64 = omega arith
-width-le Float32 = omega arith
-width-le Float64 = omega arith
 
 -- ---- a list that is filled from the front
 

@@ -5,6 +5,7 @@ use lib.IntN.{ℤ}
 use lib.ListN.{length}
 use Rattle.union_array.specs.Types.{Amounts}
 
+-- lent memory, each slice as a list
 pub record Buffers : Type 0 where
   pub ids : List ℤ
   pub offsets : List ℤ

@@ -6,6 +6,7 @@ pub mod Slots
 pub mod Questions
 pub mod Lookup
 pub mod Slices
+pub mod Numbers
 -- What the contracts of inner functions cite.
 pub mod Look
 pub mod Pass

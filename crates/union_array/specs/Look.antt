@@ -13,6 +13,7 @@ pub use Rattle.union_array.specs.declared.Looked.{Looked}
 abbrev pub notLooked : ℕ → Looked
 notLooked n = record { column = noColumn; refusal = n; found = false }
 
+-- the first no of 1 to 6; of an accepted array the column with an id, and whether there is one
 unfoldable pub lookOf : UnionArray → Amounts → ℤ → Looked
 lookOf a lent id = record {
   column = ifYes (asked a lent) (orNone (columnOf (inUse a) id)) noColumn;

@@ -1,12 +1,12 @@
 -- What each call on an array answers, on every input: slices are in Slices.antt.
-use mathlib.Core.Bool.{Bool, true, false, cond, not}
+use mathlib.Core.Bool.{true, false, cond, not}
 use mathlib.Core.Option.{Option, none, some}
 use mathlib.Core.List.{List, [], _++_, map}
 use Prim.Native.Nat.{ℕ, _+_, _-_}
 use lib.Dec.{eqb}
 use lib.IntN.{ℤ, pos}
 use lib.ListN.{getD, take, drop, replicate}
-use Rattle.union_array.specs.Types.{Kind, Int8, Column, UnionArray, noColumn, byLayout, widthOf, lowBits}
+use Rattle.union_array.specs.Types.{Int8, Column, UnionArray, noColumn, byLayout, widthOf, lowBits}
 use Rattle.union_array.specs.Buffers.{Buffers, amountsOf}
 use Rattle.union_array.specs.Refusal.{no, _then_, ifYes}
 use Rattle.union_array.specs.Slots.{inUse, all, columnOf, typeIdAt, childAt, slotAt, present, nullsIn}
@@ -43,13 +43,16 @@ columnValue c m p = record {
 abbrev pub noValue : ℕ → Value
 noValue n = record { bits = 0; name = replicate 32 0; size = 0; refusal = n; id = pos 0; kind = Int8; missing = false }
 
+-- slot p of the child found; 7 refuses a slot without one before this is asked
 abbrev pub valueIn : Option Column → Buffers → ℕ → Value
 valueIn none m p = noValue 7
 valueIn (some c) m p = columnValue c m p
 
+-- value: slot i's child at its slot there
 unfoldable pub valueOf : UnionArray → Buffers → ℕ → Value
 valueOf a m i = ifYes (slotChecked a m i) (valueIn (childAt a m i) m (slotAt a m i)) (noValue (slotChecked a m i))
 
+-- type_id: slot i's type id
 unfoldable pub typeIdOf : UnionArray → Buffers → ℕ → TypeId
 typeIdOf a m i = record { refusal = slotChecked a m i; id = ifYes (slotChecked a m i) (typeIdAt a m i) (pos 0) }
 
@@ -57,20 +60,24 @@ typeIdOf a m i = record { refusal = slotChecked a m i; id = ifYes (slotChecked a
 unfoldable pub valueOffsetOf : UnionArray → Buffers → ℕ → ValueOffset
 valueOffsetOf a m i = record { offset = ifYes (slotChecked a m i) (slotAt a m i) 0; refusal = slotChecked a m i }
 
+-- the column found, or the column of zeros
 abbrev pub orNone : Option Column → Column
 orNone none = noColumn
 orNone (some c) = c
 
--- "child answers the list entry with the given id": asks 1 to 6, then 11
+-- child: asks 1 to 6, then 11
 abbrev pub childChecked : UnionArray → Buffers → ℤ → ℕ
 childChecked a m id = asked a (amountsOf m) then no 11 (question11 a id)
 
+-- "child answers the list entry with the given id"
 unfoldable pub childOf : UnionArray → Buffers → ℤ → Child
 childOf a m id = record { column = ifYes (childChecked a m id) (orNone (columnOf (inUse a) id)) noColumn; refusal = childChecked a m id }
 
+-- a column's name place and length
 abbrev pub nameOf : Column → NamePlace
 nameOf c = record { start = c .name; size = c .size }
 
+-- the place of no name: zeros
 abbrev pub noName : NamePlace
 noName = record { start = 0; size = 0 }
 
@@ -82,10 +89,11 @@ typeNamesOf a m = record {
   refusal = asked a (amountsOf m);
 }
 
+-- is_dense: whether the layout is dense
 unfoldable pub isDenseOf : UnionArray → Buffers → Flag
 isDenseOf a m = record { refusal = asked a (amountsOf m); holds = ifYes (asked a (amountsOf m)) (byLayout (a .layout) false true) false }
 
--- "some child has a null anywhere in it, selected or not"
+-- is_nullable: "some child has a null anywhere in it, selected or not"
 unfoldable pub isNullableOf : UnionArray → Buffers → Flag
 isNullableOf a m = record {
   refusal = asked a (amountsOf m);

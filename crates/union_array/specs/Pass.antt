@@ -12,6 +12,7 @@ use Rattle.union_array.specs.Lookup.{orNone}
 pub use Rattle.union_array.specs.declared.Head.{Head}
 pub use Rattle.union_array.specs.declared.Passed.{Passed}
 
+-- the layout is dense
 abbrev pub isDense : Layout → Bool
 isDense l = byLayout l false true
 
@@ -60,6 +61,7 @@ columnsFault lent n dense cs =
     faultOf (all (λ c. validId (c .id)) cs && distinct cs) (all (columnIn lent) cs) (all (λ c. leb (c .slots) 65536) cs)
     (dense || all (λ c. eqb (c .slots) n) cs)
 
+-- the lesser of two numbers
 abbrev pub leastOf : ℕ → ℕ → ℕ
 leastOf a b = cond (ltb b a) b a
 
@@ -75,8 +77,7 @@ passOf lent n dense id cs = record {
 unfoldable pub headFault : Head → Amounts → ℕ
 headFault h lent =
     no 2 (eqb (h .children) (h .fields))
-    then no 3 (partIn (h .start) (h .count) (lent .ids))
-    then no 3 (byLayout (h .layout) true (partIn (h .«offsets_start») (h .«offsets_count») (lent .offsets)))
+    then no 3 (partIn (h .start) (h .count) (lent .ids) && byLayout (h .layout) true (partIn (h .«offsets_start») (h .«offsets_count») (lent .offsets)))
     then no 4 (leb (h .count) 65536)
     then no 5 (byLayout (h .layout) true (eqb (h .«offsets_count») (h .count)))
     then 7

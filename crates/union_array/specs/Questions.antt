@@ -9,7 +9,7 @@ use Rattle.bitmap.specs.Lists.{every}
 use Rattle.union_array.specs.Types.{Column, UnionArray, Amounts, firstBit, byLayout}
 use Rattle.union_array.specs.Buffers.{Buffers, amountsOf}
 use Rattle.union_array.specs.Refusal.{no, _then_}
-use Rattle.union_array.specs.Slots.{inUse, all, columnOf, isSome, typeIdAt, offsetAt, childAt}
+use Rattle.union_array.specs.Slots.{inUse, all, columnOf, isSome, offsetAt, childAt}
 
 -- a field id is 0 to 127
 abbrev pub validId : ℤ → Bool
@@ -73,6 +73,7 @@ abbrev pub within : ℤ → ℕ → Bool
 within (pos k) n = ltb k n
 within (negsuc k) n = false
 
+-- an offset is at least 0 and below the slots of the child found
 abbrev pub withinChild : ℤ → Option Column → Bool
 withinChild z none = false
 withinChild z (some c) = within z (c .slots)

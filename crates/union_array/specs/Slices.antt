@@ -42,5 +42,6 @@ sliced a o n = record {
 unfoldable pub sliceChecked : UnionArray → Buffers → ℕ → ℕ → ℕ
 sliceChecked a m o n = asked a (amountsOf m) then no 9 (question9 a o n)
 
+-- slice: the sliced description; refused, "all other answer fields 0"
 unfoldable pub sliceOf : UnionArray → Buffers → ℕ → ℕ → Slice
 sliceOf a m o n = record { array = ifYes (sliceChecked a m o n) (sliced a o n) noArray; refusal = sliceChecked a m o n }

@@ -1,4 +1,4 @@
--- Columns by id, a slot's child and its slot in it, and presence (Format, "Union Layout" and "Validity bitmaps").
+-- Columns by id, a slot's child and its slot in it, and presence (Format, union layout and validity bitmaps).
 use mathlib.Core.Bool.{Bool, true, false, cond, not, _&&_, _||_}
 use mathlib.Core.Option.{Option, none, some}
 use mathlib.Core.List.{List, [], _∷_}
@@ -24,6 +24,7 @@ abbrev pub columnOf : List Column → ℤ → Option Column
 columnOf [] id = none
 columnOf (c ∷ cs) id = cond (sameId (c .id) id) (some c) (columnOf cs id)
 
+-- there is one
 abbrev pub isSome {ℓ} : {A : Type ℓ} → Option A → Bool
 isSome none = false
 isSome (some a) = true
@@ -56,6 +57,7 @@ presenceChunk c m len k = pack 64 (λ j. ltb (64 * k + j) len && present c m (64
 unfoldable pub nullsIn : Column → Buffers → ℕ
 nullsIn c m = count (c .slots) (λ p. not (present c m p))
 
+-- slot p of a child is null; with no child there is none
 abbrev pub nullIn : Option Column → Buffers → ℕ → Bool
 nullIn none m p = false
 nullIn (some c) m p = not (present c m p)

@@ -25,6 +25,7 @@ kindNumber UInt64 = 7
 kindNumber Float32 = 8
 kindNumber Float64 = 9
 
+-- two kinds are the same
 abbrev pub sameKind : Kind → Kind → Bool
 sameKind a b = eqb (kindNumber a) (kindNumber b)
 

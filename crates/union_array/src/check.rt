@@ -96,7 +96,7 @@ fn offsets_within(a: UnionArray, type_ids: &[i8], offsets: &[i32]) -> bool
 }
 
 // 7 and 8 of every slot: the number of the first no, 0 if there is none.
-pub fn check_slots(a: UnionArray, type_ids: &[i8], offsets: &[i32]) -> u8
+fn check_slots(a: UnionArray, type_ids: &[i8], offsets: &[i32]) -> u8
     requires { ⌜ Readable a (now «type_ids») (now offsets) ⌝ }
     ensures { λ r. ⌜ r ≡ slotsChecked a (onlySlots (now («type_ids» .entry)) (now (offsets .entry))) ⌝ }
 {

@@ -54,7 +54,13 @@ fn padded_name(names: &[u8], start: usize, size: usize) -> [u8; 32]
 }
 
 // Slot p of a child.
-pub fn column_value(c: Column, p: usize, values: &[u64], masks: &[u64], names: &[u8]) -> Value
+pub(crate) fn column_value(
+    c: Column,
+    p: usize,
+    values: &[u64],
+    masks: &[u64],
+    names: &[u8],
+) -> Value
     requires { ⌜ (p < c .slots) × (columnIn (amountsOf (buffersOf [] [] (now values) (now masks) (now names))) c ≡ true) ⌝ }
     ensures { λ r. ⌜ r ≡ columnValue c (buffersOf [] [] (now (values .entry)) (now (masks .entry)) (now (names .entry))) p ⌝ }
 {

@@ -1,8 +1,9 @@
 // The union array: a description by value over lent memory.
 pub mod check;
 pub mod child_value;
-pub mod fields;
-pub mod lookup;
+mod fields;
+pub mod kinds;
+mod lookup;
 pub mod presence;
 pub mod questions;
 pub mod slices;
@@ -119,14 +120,14 @@ pub struct Slice {
 }
 
 // What one pass over the columns tells every call: the first no of 1 to 6, and the column with an id.
-pub struct Looked {
+pub(crate) struct Looked {
     pub column: Column,
     pub refusal: u8,
     pub found: bool,
 }
 
 // An array but for its columns.
-pub struct Head {
+pub(crate) struct Head {
     pub fields: usize,
     pub children: usize,
     pub start: usize,
@@ -137,14 +138,14 @@ pub struct Head {
 }
 
 // What a pass tells: the least of 1, 3, 4 and 6 answered no, 7 if there is none, and the column with an id.
-pub struct Passed {
+pub(crate) struct Passed {
     pub column: Column,
     pub fault: u8,
     pub found: bool,
 }
 
 // A slot's child, its slot in it and its type id.
-pub struct ChildSlot {
+pub(crate) struct ChildSlot {
     pub column: Column,
     pub slot: usize,
     pub refusal: u8,

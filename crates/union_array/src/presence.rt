@@ -34,7 +34,7 @@ pub fn presence_chunk(c: Column, masks: &[u64], len: usize, k: usize) -> u64
 // How many slots of a child are null.
 pub fn null_count(c: Column, masks: &[u64]) -> NullCount
     requires { ⌜ maskIn c (length (now masks)) ≡ true ⌝ }
-    ensures { λ r. ⌜ r .nulls ≡ nullsIn c (onlyMasks (now (masks .entry))) ⌝ }
+    ensures { λ r. ⌜ r ≡ record { nulls = nullsIn c (onlyMasks (now (masks .entry))) } ⌝ }
 {
     if c.masked {
         return bitmap::null_count(masks, c.mask, c.bit as usize, c.slots as usize);

@@ -294,7 +294,7 @@ fn look_in(h: Head, columns: [Column; 128], lent: Amounts, id: i8) -> Looked
 }
 
 // 1 to 6, and the column with an id.
-pub fn look(a: UnionArray, lent: Amounts, id: i8) -> Looked
+pub(crate) fn look(a: UnionArray, lent: Amounts, id: i8) -> Looked
     ensures { λ r. ⌜ r ≡ lookOf a lent id ⌝ }
 {
     let columns = a.columns;

@@ -18,11 +18,12 @@ use Rattle.union_array.specs.declared.UnionArray.{UnionArray}
 use Rattle.union_array.specs.declared.Layout.{Layout}
 use Rattle.union_array.specs.Types.{byLayout, noColumn}
 use Rattle.union_array.specs.Buffers.{Buffers}
-use Rattle.union_names.specs.Order.{nameBy, orderedIds, NamesHeld, Listed}
-use Rattle.union_names.proofs.Listing.{listed-id}
+use Rattle.union_names.specs.Order.{nameBy, orderedIds, orderOf, NamesHeld}
+use Rattle.union_names.specs.Listing.{Listed}
+use Rattle.union_names.proofs.Listing.{order-listed, listed-id}
 use Rattle.union_builder.specs.Builder.{BuilderColumn, UnionBuilder, column, nameAt}
 use Rattle.union_builder.specs.Finish.{Named, ordered, assembled, finishedColumn, namedColumn, describe}
-use Rattle.union_builder.specs.Describe.{sizesOf, blankOf, columnFrom, filled, relisted, filledOf, Fillable, Describable}
+use Rattle.union_builder.specs.Describe.{sizesOf, blankOf, describedColumn, filledColumns, relisted, filledOf, Fillable, Describable}
 use Rattle.union_builder.proofs.ColumnOrder.{ordered-by-id, ordered-ext}
 
 -- ---- the steps
@@ -61,7 +62,7 @@ pub column-is : (d : BuilderColumn) (k c w : ℕ) → k < 128 → w ≡ wordsFor
       id = toZ w8 k;
       kind = d .kind;
       masked = d .masked;
-    }) (columnFrom d k c)
+    }) (describedColumn d k c)
 column-is d k c w h e =
     ap₂ (λ (x : ℕ) (z : ℤ). record {
       values = k * c;
@@ -77,18 +78,18 @@ column-is d k c w h e =
 
 module _ (b : UnionBuilder) (order : List ℕ) where
   pub fill-none : blankOf (b .layout) (b .len) (b .count) ≡ filledOf b order 0
-  unfolding filled
+  unfolding filledColumns
   fill-none = ap (relisted (filledOf b order 0)) (sym (retable-none _ (replicate 128 noColumn)))
 
   -- column i is filled in
   pub fill-turn : (i : ℕ) (out : UnionArray) (d : Column) → i < 128 → out ≡ filledOf b order i
-      → d ≡ columnFrom (column b (getD order i 0)) (getD order i 0) (b .capacity)
+      → d ≡ describedColumn (column b (getD order i 0)) (getD order i 0) (b .capacity)
       → relisted out (set (out .columns) i d) ≡ filledOf b order (i + 1)
-  unfolding filled
+  unfolding filledColumns
   fill-turn i out d h e f =
       ap (λ (a : UnionArray). relisted a (set (a .columns) i d)) e
       ∙ ap (relisted (filledOf b order i))
-      (retable-turn (λ j. columnFrom (column b (getD order j 0)) (getD order j 0) (b .capacity)) (replicate 128 noColumn) i d f h)
+      (retable-turn (λ j. describedColumn (column b (getD order j 0)) (getD order j 0) (b .capacity)) (replicate 128 noColumn) i d f h)
 
 -- ---- the columns in order
 
@@ -120,10 +121,14 @@ module _ (b : UnionBuilder) where
   named-is : (m : Buffers) (k : ℕ) → k < b .count → byId (m .names) k ≡ namedColumn b m k
   named-is m k h = ap (λ (n : ℕ). record { name = nameAt m k n; column = finishedColumn b k }) (sizes-at k h)
 
-  pub describe-is : (m : Buffers) (order : List ℕ) → b .count ≤ 128 → Listed (m .names) (sizesOf b) order (b .count)
+  listed : (names order : List ℕ) → b .count ≤ 128 → order ≡ orderOf names (sizesOf b) (b .count) → Listed names (sizesOf b) order (b .count)
+  listed names order h e = rw e (order-listed names (sizesOf b) (b .count) h)
+
+  pub describe-is : (m : Buffers) (order : List ℕ) → b .count ≤ 128 → order ≡ orderOf (m .names) (sizesOf b) (b .count)
       → filledOf b order (b .count) ≡ describe b m
-  unfolding filled describe assembled retable
-  describe-is m order h s =
+  unfolding filledColumns describe assembled retable
+  describe-is m order h e =
+      let s = listed (m .names) order h e in
       let in-order : map (finishedColumn b) (take (b .count) order) ≡ map (λ c. c .column) (ordered (b .count) (namedColumn b m)) =
       ap (map (finishedColumn b)) (s .ids) ∙ sym (columns-of (byId (m .names)) (orderedIds (b .count) (nameBy (m .names) (sizesOf b))))
       ∙ ap (map (λ c. c .column)) (sym (ordered-by-id (byId (m .names)) (b .count)) ∙ ordered-ext (b .count) (byId (m .names)) (namedColumn b m) (named-is m)) in
@@ -142,5 +147,5 @@ module _ (b : UnionBuilder) where
     short = λ k h. rw (sizes-at k h) (d .short k h);
   }
 
-  pub fillable : (names order : List ℕ) → Describable b (length names) → Listed names (sizesOf b) order (b .count) → Fillable b order
-  fillable names order d s = record { few = d .few; small = d .small; ids = λ i h. listed-id names (sizesOf b) order (b .count) i s h }
+  pub fillable : (names order : List ℕ) → Describable b (length names) → order ≡ orderOf names (sizesOf b) (b .count) → Fillable b order
+  fillable names order d e = record { few = d .few; small = d .small; ids = λ i h. listed-id names (sizesOf b) order (b .count) i (listed names order (d .few) e) h }

@@ -1,5 +1,5 @@
 -- Describing, in the steps of its functions: the array before its columns are filled in, and with the first i of them.
-use mathlib.Core.List.{List, []}
+use mathlib.Core.List.{List}
 use Prim.Native.Nat.{ℕ, _*_, _≤_, _<_}
 use lib.IntN.{pos}
 use lib.ListN.{getD, replicate}
@@ -9,12 +9,7 @@ use Rattle.union_array.specs.declared.Column.{Column}
 use Rattle.union_array.specs.declared.UnionArray.{UnionArray}
 use Rattle.union_array.specs.declared.Layout.{Layout}
 use Rattle.union_array.specs.Types.{byLayout, noColumn}
-use Rattle.union_array.specs.Buffers.{Buffers, buffersOf}
 use Rattle.union_builder.specs.Builder.{BuilderColumn, UnionBuilder, column}
-
--- lent memory of which only the name bytes matter
-abbrev pub onlyNames : List ℕ → Buffers
-onlyNames names = buffersOf [] [] [] [] names
 
 -- the name lengths of the columns in use, in id order
 unfoldable pub sizesOf : UnionBuilder → List ℕ
@@ -34,8 +29,8 @@ blankOf l n k = record {
 }
 
 -- column k of a builder of c slots, from what the builder has of it
-abbrev pub columnFrom : BuilderColumn → ℕ → ℕ → Column
-columnFrom d k c = record {
+abbrev pub describedColumn : BuilderColumn → ℕ → ℕ → Column
+describedColumn d k c = record {
   values = k * c;
   mask = k * wordsFor c;
   name = 32 * k;
@@ -48,8 +43,8 @@ columnFrom d k c = record {
 }
 
 -- the columns, the first i of them filled in by the ids in order
-unfoldable pub filled : UnionBuilder → List ℕ → ℕ → List Column
-filled b order i = retable i (λ j. columnFrom (column b (getD order j 0)) (getD order j 0) (b .capacity)) (replicate 128 noColumn)
+unfoldable pub filledColumns : UnionBuilder → List ℕ → ℕ → List Column
+filledColumns b order i = retable i (λ j. describedColumn (column b (getD order j 0)) (getD order j 0) (b .capacity)) (replicate 128 noColumn)
 
 -- an array with another list of columns
 abbrev pub relisted : UnionArray → List Column → UnionArray
@@ -66,7 +61,7 @@ relisted a cs = record {
 
 -- the builder's array with the first i columns filled in
 abbrev pub filledOf : UnionBuilder → List ℕ → ℕ → UnionArray
-filledOf b order i = relisted (blankOf (b .layout) (b .len) (b .count)) (filled b order i)
+filledOf b order i = relisted (blankOf (b .layout) (b .len) (b .count)) (filledColumns b order i)
 
 -- a builder that can be filled in from: few columns and slots, and ids that are among its columns
 pub record Fillable (b : UnionBuilder) (order : List ℕ) : Type 0 where

@@ -15,12 +15,11 @@ use union_array::Kind;
 ghost use mathlib.Core.Path.{_≡_};
 ghost use Rattle.union_array.specs.Buffers.{buffersOf, amountsOf};
 ghost use Rattle.union_builder.specs.Builder.{builderChecked};
-ghost use Rattle.union_builder.specs.Append.{outcome};
-ghost use Rattle.union_builder.specs.Writing.{valueOf};
+ghost use Rattle.union_builder.specs.Append.{someIf, outcome};
 ghost use Rattle.union_builder.specs.Planning.{Sound, answerBy, appendedOf};
 
 // Plans an append, and writes what it adds. `checked` is the first no of 15 and 16, or 0. The builder itself stays: `grow` gives the next.
-pub fn append_step(
+pub(crate) fn append_step(
     b: UnionBuilder,
     checked: u8,
     name: &[u8],
@@ -36,8 +35,8 @@ pub fn append_step(
     requires { ⌜ checked ≡ builderChecked b (amountsOf (buffersOf (now «type_ids») (now offsets) (now values) (now masks) (now names))) ⌝ }
     ensures { λ r. ⌜ (r .refusal ≡ 0 → Sound b r) ⌝ }
     ensures { λ r. ⌜
-        outcome (answerBy b r (valueOf present 0)) (buffersOf (now («type_ids» .exit)) (now (offsets .exit)) (now (values .exit)) (now (masks .exit)) (now (names .exit)))
-        ≡ appendedOf b (buffersOf (now («type_ids» .entry)) (now (offsets .entry)) (now (values .entry)) (now (masks .entry)) (now (names .entry))) (now (name .entry)) kind (valueOf present word) ⌝ }
+        outcome (answerBy b r (someIf present 0)) (buffersOf (now («type_ids» .exit)) (now (offsets .exit)) (now (values .exit)) (now (masks .exit)) (now (names .exit)))
+        ≡ appendedOf b (buffersOf (now («type_ids» .entry)) (now (offsets .entry)) (now (values .entry)) (now (masks .entry)) (now (names .entry))) (now (name .entry)) kind (someIf present word) ⌝ }
 {
     let p = plan(b, checked, names, name, kind);
     if p.refusal != 0 {
@@ -73,7 +72,7 @@ pub(crate) fn append_slot(
 ) -> Appended
     ensures { λ r. ⌜
         outcome r (buffersOf (now («type_ids» .exit)) (now (offsets .exit)) (now (values .exit)) (now (masks .exit)) (now (names .exit)))
-        ≡ appendedOf b (buffersOf (now («type_ids» .entry)) (now (offsets .entry)) (now (values .entry)) (now (masks .entry)) (now (names .entry))) (now (name .entry)) kind (valueOf present word) ⌝ }
+        ≡ appendedOf b (buffersOf (now («type_ids» .entry)) (now (offsets .entry)) (now (values .entry)) (now (masks .entry)) (now (names .entry))) (now (name .entry)) kind (someIf present word) ⌝ }
 {
     let lent = Amounts {
         ids: type_ids.len(),

@@ -10,9 +10,8 @@ ghost use mathlib.Core.Bool.{not};
 ghost use Prim.Native.Nat.{_+_, _<_, _≤_};
 ghost use lib.ListN.{length};
 ghost use Rattle.union_array.specs.Types.{byLayout};
-ghost use Rattle.union_builder.specs.Append.{opened};
-ghost use Rattle.union_builder.specs.Writing.{valueOf};
-ghost use Rattle.union_builder.specs.Planning.{grownBy, Short, withColumns, rowAfter, Sound, settled};
+ghost use Rattle.union_builder.specs.Append.{someIf, opened};
+ghost use Rattle.union_builder.specs.Planning.{grownBy, Short, withColumns, rowAfter, Sound, grownAs};
 
 // A number in a sparse builder, 0 in a dense one.
 pub(crate) fn if_sparse(layout: Layout, n: usize) -> usize
@@ -38,7 +37,7 @@ pub(crate) fn opened_column(name: &[u8], kind: Kind, n: usize) -> BuilderColumn
 }
 
 // The column with one slot more, a null or not.
-pub fn grown_column(c: BuilderColumn, null: bool) -> BuilderColumn
+pub(crate) fn grown_column(c: BuilderColumn, null: bool) -> BuilderColumn
     requires { ⌜ c .slots < 65536 ⌝ }
     ensures { λ r. ⌜ r ≡ grownBy c null ⌝ }
 {
@@ -76,9 +75,9 @@ fn grow_row(mut b: UnionBuilder, id: usize, present: bool) -> UnionBuilder
 }
 
 // The builder once an append is done as planned.
-pub fn grow(mut b: UnionBuilder, p: Plan, present: bool) -> UnionBuilder
+pub(crate) fn grow(mut b: UnionBuilder, p: Plan, present: bool) -> UnionBuilder
     requires { ⌜ Sound b p ⌝ }
-    ensures { λ r. ⌜ r ≡ settled b p (valueOf present 0) ⌝ }
+    ensures { λ r. ⌜ r ≡ grownAs b p (someIf present 0) ⌝ }
 {
     let id = p.id;
     let c = p.column;

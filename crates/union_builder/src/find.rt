@@ -24,7 +24,7 @@ pub(crate) fn no_column() -> BuilderColumn
 }
 
 // No column has the name.
-pub fn none_found() -> Found
+fn none_found() -> Found
     ensures { λ r. ⌜ r ≡ nothing ⌝ }
 {
     Found {

@@ -16,7 +16,8 @@ ghost use Rattle.union_array.specs.Buffers.{buffersOf};
 ghost use Rattle.union_array.specs.declared.Layout.the-variants.{Sparse};
 ghost use Rattle.union_array.specs.Types.{byLayout};
 ghost use Rattle.union_builder.specs.Builder.{empty};
-ghost use Rattle.union_builder.specs.Describe.{sizesOf, blankOf, columnFrom, filledOf, onlyNames, Fillable, Describable};
+ghost use Rattle.union_builder.specs.Finding.{onlyNames};
+ghost use Rattle.union_builder.specs.Describe.{sizesOf, blankOf, describedColumn, filledOf, Fillable, Describable};
 ghost use Rattle.union_builder.specs.Finish.{describe, finishClonedOf, finishOf};
 
 // The name lengths of the columns in use.
@@ -62,7 +63,7 @@ fn blank(layout: Layout, n: usize, k: usize) -> UnionArray
 // Column k of a builder of `capacity` slots, as the array lists it.
 fn finished_column(c: BuilderColumn, k: usize, capacity: usize) -> Column
     requires { ⌜ (k < 128) × (capacity ≤ 65536) ⌝ }
-    ensures { λ r. ⌜ r ≡ columnFrom c k capacity ⌝ }
+    ensures { λ r. ⌜ r ≡ describedColumn c k capacity ⌝ }
 {
     let kind = c.kind;
     Column {

@@ -1,15 +1,15 @@
 // The union builder: its state by value, the memory that it fills lent to each call.
-pub mod append;
-pub mod builder;
-pub mod columns;
-pub mod find;
-pub mod finish;
-pub mod kinds;
-pub mod lent;
-pub mod planning;
-pub mod questions;
-pub mod slots;
-pub mod store;
+mod append;
+mod appends;
+mod builder;
+mod columns;
+mod find;
+mod finish;
+mod lent;
+mod planning;
+mod questions;
+mod slots;
+mod store;
 
 use union_array::Kind;
 use union_array::Layout;
@@ -40,7 +40,7 @@ pub struct Made {
     pub refusal: u8,
 }
 
-// What `append` and `append_null` answer.
+// What `append`, `append_null` and `appends` answer.
 pub struct Appended {
     pub builder: UnionBuilder,
     pub refusal: u8,
@@ -60,7 +60,7 @@ pub struct Finished {
 }
 
 // A builder but for its columns.
-pub struct BuilderHead {
+pub(crate) struct BuilderHead {
     pub capacity: usize,
     pub limit: usize,
     pub len: usize,
@@ -69,14 +69,14 @@ pub struct BuilderHead {
 }
 
 // The first column with a name, if it is known.
-pub struct Found {
+pub(crate) struct Found {
     pub column: BuilderColumn,
     pub id: usize,
     pub known: bool,
 }
 
 // What an append is to do: its column as it is before the new slot, the columns in use after, and whether the name is new.
-pub struct Plan {
+pub(crate) struct Plan {
     pub column: BuilderColumn,
     pub id: usize,
     pub count: usize,

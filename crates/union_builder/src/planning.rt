@@ -7,19 +7,19 @@ use crate::columns::if_sparse;
 use crate::columns::opened_column;
 use crate::find::look;
 use crate::find::no_column;
-use crate::kinds::same_kind;
 use union_array::Kind;
+use union_array::kinds::same_kind;
 use union_names::utf8::name_fits;
 ghost use mathlib.Core.Path.{_≡_};
 ghost use Prim.Native.Nat.{_≤_};
 ghost use lib.ListN.{length};
 ghost use Rattle.union_builder.specs.Builder.{namesOf};
 ghost use Rattle.union_builder.specs.Finding.{onlyNames, Searchable};
-ghost use Rattle.union_builder.specs.Writing.{headOf};
+ghost use Rattle.union_builder.specs.Writing.{builderHead};
 ghost use Rattle.union_builder.specs.Planning.{refusedPlan, foundPlan, planOf};
 
 // A plan that is refused.
-pub fn refused(n: u8) -> Plan
+pub(crate) fn refused(n: u8) -> Plan
     ensures { λ r. ⌜ r ≡ refusedPlan n ⌝ }
 {
     Plan {
@@ -32,7 +32,7 @@ pub fn refused(n: u8) -> Plan
 }
 
 // Questions 18 to 20, once the name was looked for.
-pub fn settle(b: BuilderHead, f: Found, name: &[u8], kind: Kind) -> Plan
+fn settle(b: BuilderHead, f: Found, name: &[u8], kind: Kind) -> Plan
     requires { ⌜ (b .len ≤ 65536) × (length (now name) ≤ 32) ⌝ }
     ensures { λ r. ⌜ r ≡ foundPlan b f (now (name .entry)) kind ⌝ }
 {
@@ -71,7 +71,7 @@ pub fn settle(b: BuilderHead, f: Found, name: &[u8], kind: Kind) -> Plan
 
 // A builder but for its columns.
 pub(crate) fn head_of(b: UnionBuilder) -> BuilderHead
-    ensures { λ r. ⌜ r ≡ headOf b ⌝ }
+    ensures { λ r. ⌜ r ≡ builderHead b ⌝ }
 {
     let layout = b.layout;
     BuilderHead {

@@ -10,7 +10,7 @@ ghost use Rattle.union_builder.specs.Builder.{columnFits, question16, bu
 ghost use Rattle.union_builder.specs.Finding.{fits, numbersFit};
 
 // Whether a column fits a builder of `len` slots.
-pub(crate) fn column_fits(layout: Layout, len: usize, c: BuilderColumn) -> bool
+fn column_fits(layout: Layout, len: usize, c: BuilderColumn) -> bool
     ensures { λ r. ⌜ r ≡ fits layout len c ⌝ }
 {
     let slots = c.slots as usize;
@@ -42,7 +42,7 @@ fn columns_fit(b: UnionBuilder) -> bool
 }
 
 // Question 15 but for the columns.
-pub(crate) fn numbers_fit(capacity: usize, limit: usize, len: usize, count: usize) -> bool
+fn numbers_fit(capacity: usize, limit: usize, len: usize, count: usize) -> bool
     ensures { λ r. ⌜ r ≡ numbersFit capacity limit len count ⌝ }
 {
     if capacity < 1 {
@@ -64,7 +64,7 @@ pub(crate) fn numbers_fit(capacity: usize, limit: usize, len: usize, count: usiz
 }
 
 // Question 16, of a builder that passed 15.
-pub(crate) fn lent_fits(capacity: usize, limit: usize, lent: Amounts) -> bool
+fn lent_fits(capacity: usize, limit: usize, lent: Amounts) -> bool
     requires { ⌜ (capacity ≤ 65536) × (limit ≤ 128) ⌝ }
     ensures { λ r. ⌜ r ≡ question16 capacity limit lent ⌝ }
 {
@@ -84,7 +84,7 @@ pub(crate) fn lent_fits(capacity: usize, limit: usize, lent: Amounts) -> bool
 }
 
 // Questions 15 and 16.
-pub fn builder_checked(b: UnionBuilder, lent: Amounts) -> u8
+pub(crate) fn builder_checked(b: UnionBuilder, lent: Amounts) -> u8
     ensures { λ r. ⌜ r ≡ builderChecked b lent ⌝ }
 {
     if !numbers_fit(b.capacity, b.limit, b.len, b.count) {

@@ -6,12 +6,12 @@ ghost use Prim.Native.Nat.{_+_, _*_, _<_, _≤_};
 ghost use lib.Dec.{eqb};
 ghost use lib.ListN.{length};
 ghost use Rattle.bitmap.specs.Bits.{wordsFor};
-ghost use Rattle.union_builder.specs.Append.{orElse, filled, row, puts, putValue, putBit};
-ghost use Rattle.union_builder.specs.Writing.{valueOf, Room};
+ghost use Rattle.union_builder.specs.Append.{someIf, orElse, filled, row, puts, putValue, putBit};
+ghost use Rattle.union_builder.specs.Writing.{Room};
 
 // The word of a slot: a null's is 0.
 fn slot_word(word: u64, present: bool) -> u64
-    ensures { λ r. ⌜ r ≡ orElse (valueOf present word) 0 ⌝ }
+    ensures { λ r. ⌜ r ≡ orElse (someIf present word) 0 ⌝ }
 {
     if present { word } else { 0 }
 }
@@ -34,8 +34,8 @@ pub(crate) fn put_slot(
     present: bool,
 )
     requires { ⌜ Room capacity (k + 1) (length (now values)) (length (now masks)) × (slot < capacity) ⌝ }
-    ensures { λ _. ⌜ now (values .exit) ≡ putValue (now (values .entry)) (k * capacity + slot) (valueOf present word) ⌝ }
-    ensures { λ _. ⌜ now (masks .exit) ≡ putBit (now (masks .entry)) (k * (64 * wordsFor capacity) + slot) (valueOf present word) ⌝ }
+    ensures { λ _. ⌜ now (values .exit) ≡ putValue (now (values .entry)) (k * capacity + slot) (someIf present word) ⌝ }
+    ensures { λ _. ⌜ now (masks .exit) ≡ putBit (now (masks .entry)) (k * (64 * wordsFor capacity) + slot) (someIf present word) ⌝ }
 {
     values[k * capacity + slot] = slot_word(word, present);
     bitmap::set_bit(masks, k * bitmap::words_for(capacity), slot, present);
@@ -64,8 +64,8 @@ pub(crate) fn put_row(
     present: bool,
 )
     requires { ⌜ Room capacity n (length (now values)) (length (now masks)) × (slot < capacity) ⌝ }
-    ensures { λ _. ⌜ now (values .exit) ≡ puts putValue capacity (now (values .entry)) (row n slot id (valueOf present word)) ⌝ }
-    ensures { λ _. ⌜ now (masks .exit) ≡ puts putBit (64 * wordsFor capacity) (now (masks .entry)) (row n slot id (valueOf present word)) ⌝ }
+    ensures { λ _. ⌜ now (values .exit) ≡ puts putValue capacity (now (values .entry)) (row n slot id (someIf present word)) ⌝ }
+    ensures { λ _. ⌜ now (masks .exit) ≡ puts putBit (64 * wordsFor capacity) (now (masks .entry)) (row n slot id (someIf present word)) ⌝ }
 {
     for k in 0..n {
         put_slot(

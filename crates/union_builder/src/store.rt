@@ -15,8 +15,8 @@ ghost use lib.Seq.{paste};
 ghost use Rattle.bitmap.specs.Bits.{wordsFor};
 ghost use Rattle.union_array.specs.Types.{byLayout};
 ghost use Rattle.union_array.specs.Buffers.{buffersOf, amountsOf};
-ghost use Rattle.union_builder.specs.Append.{puts, putValue, putBit};
-ghost use Rattle.union_builder.specs.Writing.{valueOf, Room, putsSparse, putsFor, writtenBy, Writable};
+ghost use Rattle.union_builder.specs.Append.{someIf, puts, putValue, putBit};
+ghost use Rattle.union_builder.specs.Writing.{Room, putsSparse, putsFor, writtenBy, Writable};
 
 // Stores a type id.
 fn put_type_id(type_ids: &mut [i8], at: usize, id: usize)
@@ -67,8 +67,8 @@ fn put_sparse(
     present: bool,
 )
     requires { ⌜ Room capacity (p .count) (length (now values)) (length (now masks)) × (len < capacity) × (p .id < p .count) ⌝ }
-    ensures { λ _. ⌜ now (values .exit) ≡ puts putValue capacity (now (values .entry)) (putsSparse p len (valueOf present word)) ⌝ }
-    ensures { λ _. ⌜ now (masks .exit) ≡ puts putBit (64 * wordsFor capacity) (now (masks .entry)) (putsSparse p len (valueOf present word)) ⌝ }
+    ensures { λ _. ⌜ now (values .exit) ≡ puts putValue capacity (now (values .entry)) (putsSparse p len (someIf present word)) ⌝ }
+    ensures { λ _. ⌜ now (masks .exit) ≡ puts putBit (64 * wordsFor capacity) (now (masks .entry)) (putsSparse p len (someIf present word)) ⌝ }
 {
     put_nulls(values, masks, capacity, p.id, blanks(p.fresh, len));
     put_row(values, masks, capacity, p.count, len, p.id, word, present);
@@ -86,8 +86,8 @@ fn put_slots(
     present: bool,
 )
     requires { ⌜ Room capacity (p .count) (length (now values)) (length (now masks)) × (len < capacity) × (p .id < p .count) × ((p .column) .slots ≤ len) ⌝ }
-    ensures { λ _. ⌜ now (values .exit) ≡ puts putValue capacity (now (values .entry)) (putsFor layout p len (valueOf present word)) ⌝ }
-    ensures { λ _. ⌜ now (masks .exit) ≡ puts putBit (64 * wordsFor capacity) (now (masks .entry)) (putsFor layout p len (valueOf present word)) ⌝ }
+    ensures { λ _. ⌜ now (values .exit) ≡ puts putValue capacity (now (values .entry)) (putsFor layout p len (someIf present word)) ⌝ }
+    ensures { λ _. ⌜ now (masks .exit) ≡ puts putBit (64 * wordsFor capacity) (now (masks .entry)) (putsFor layout p len (someIf present word)) ⌝ }
 {
     match layout {
         Layout::Sparse => put_sparse(values, masks, capacity, len, p, word, present),
@@ -107,7 +107,7 @@ fn put_slots(
 }
 
 // Writes what an append of a value or a null adds.
-pub fn store(
+pub(crate) fn store(
     b: BuilderHead,
     p: Plan,
     name: &[u8],
@@ -122,7 +122,7 @@ pub fn store(
     requires { ⌜ Writable b p (length (now name)) (amountsOf (buffersOf (now «type_ids») (now offsets) (now values) (now masks) (now names))) ⌝ }
     ensures { λ _. ⌜
         buffersOf (now («type_ids» .exit)) (now (offsets .exit)) (now (values .exit)) (now (masks .exit)) (now (names .exit))
-        ≡ writtenBy b p (buffersOf (now («type_ids» .entry)) (now (offsets .entry)) (now (values .entry)) (now (masks .entry)) (now (names .entry))) (now (name .entry)) (valueOf present word) ⌝ }
+        ≡ writtenBy b p (buffersOf (now («type_ids» .entry)) (now (offsets .entry)) (now (values .entry)) (now (masks .entry)) (now (names .entry))) (now (name .entry)) (someIf present word) ⌝ }
 {
     let len = b.len;
     let c = p.column;

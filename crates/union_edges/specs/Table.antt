@@ -1,6 +1,6 @@
 -- Document 01, "At the edges": each edge marked P is a row, with what the definitions answer and what 01 says. A text in quotes is 01's.
 use mathlib.Core.Path.{_≡_}
-use mathlib.Core.Bool.{Bool, true, false}
+use mathlib.Core.Bool.{true, false}
 use mathlib.Core.List.{List, [], _∷_, _++_, map}
 use Prim.Native.Nat.{ℕ, _-_}
 use lib.IntN.{ℤ, pos, negsuc}
@@ -15,11 +15,13 @@ use Rattle.union_array.specs.Types.{noColumn}
 use Rattle.union_array.specs.Buffers.{Buffers, buffersOf}
 use Rattle.union_array.specs.Lookup.{tryNewOf}
 use Rattle.union_array.specs.Slices.{sliceOf}
-use Rattle.logical_nulls.specs.Mask.{Masked, logicalNullsOf}
+use Rattle.logical_nulls.specs.declared.SparseStrategy.{SparseStrategy}
+use Rattle.logical_nulls.specs.declared.SparseStrategy.the-variants.{Gather, SkipOne, SkipWithoutNulls, SkipFullyNull}
+use Rattle.logical_nulls.specs.Mask.{Masked, logicalNullsOf, strategyOf}
 use Rattle.union_builder.specs.Builder.{madeOf}
 use Rattle.union_builder.specs.Finish.{finishClonedOf}
-use Rattle.union_history.specs.Claim as Claim
-use Rattle.union_history.specs.Claim.{State, after, start}
+use Rattle.union_history.specs.Claim.{State, atEnd, start}
+use Rattle.union_history.specs.Premise.{Ask, append, append-null, finish-cloned, inTurn}
 
 -- what the definitions answer, and what 01 says
 pub record Row : Type 0 where
@@ -66,44 +68,50 @@ checkedWith l cs ids offsets = tryNewOf (array l cs (length ids)) (lent ids offs
 unfoldable pub maskNumbers : Masked → List ℕ
 maskNumbers r = r .answer .refusal ∷ digit (r .answer .present) ∷ r .answer .nulls ∷ r .answer .route ∷ []
 
-unfoldable pub maskOf : Layout → List Column → List ℤ → List ℕ → ℕ → List ℤ
-maskOf l cs ids masks cost = numbers (maskNumbers (logicalNullsOf (array l cs (length ids)) (lent ids [] masks) cost (255 ∷ [])))
+unfoldable pub maskAt : Layout → List Column → List ℤ → List ℕ → ℕ → List ℤ
+maskAt l cs ids masks cost = numbers (maskNumbers (logicalNullsOf (array l cs (length ids)) (lent ids [] masks) cost (255 ∷ [])))
+
+-- what a named strategy answers of a sparse array: its refusal
+unfoldable pub strategyAt : List Column → List ℤ → List ℕ → SparseStrategy → ℕ
+strategyAt cs ids masks s = (strategyOf (array Sparse cs (length ids)) (lent ids [] masks) s (255 ∷ [])) .answer .refusal
 
 unfoldable pub routeAt : List Column → List ℤ → List ℕ → ℕ → List ℤ
 routeAt cs ids masks cost = numbers ((logicalNullsOf (array Sparse cs (length ids)) (lent ids [] masks) cost (255 ∷ [])) .answer .route ∷ [])
 
--- ---- "append A 7, B null, A 9", over memory with something in it
+-- a slice of three slots: its refusal
+unfoldable pub sliceAt : ℕ → ℕ → ℕ
+sliceAt o n = (sliceOf (array Sparse (plain 0 3 ∷ []) 3) (lent (replicate 3 (pos 0)) [] []) o n) .refusal
+
+-- ---- "append A 7, B null, A 9" and a snapshot, over memory with something in it
 unfoldable pub held : Buffers
 held = buffersOf (replicate 4 (negsuc 6)) (replicate 4 (pos 99)) (replicate 8 5) (replicate 2 10) (replicate 64 1)
 
 unfoldable pub fresh : Layout → State
 fresh l = start ((madeOf l 4 2 held) .builder) held
 
-unfoldable pub one : Layout → State
-one l = after (fresh l) (Claim.append ((fresh l) .buffers) (65 ∷ []) Int8 7)
+unfoldable pub three : List Ask
+three = append (65 ∷ []) Int8 7 ∷ append-null (66 ∷ []) Int8 ∷ append (65 ∷ []) Int8 9 ∷ finish-cloned ∷ []
 
-unfoldable pub two : Layout → State
-two l = after (one l) (Claim.append-null ((one l) .buffers) (66 ∷ []) Int8)
+-- the state after them, each lent the memory as the last left it
+unfoldable pub afterThree : Layout → State
+afterThree l = atEnd (fresh l) (inTurn (fresh l) three)
 
-unfoldable pub three : Layout → State
-three l = after (two l) (Claim.append ((two l) .buffers) (65 ∷ []) Int8 9)
-
--- the first n words of column k
-unfoldable pub wordsOf : State → ℕ → ℕ → List ℤ
-wordsOf s k n = numbers (take n (drop k (s .buffers .values)))
+-- n value words from a place on
+unfoldable pub valueWords : State → ℕ → ℕ → List ℤ
+valueWords s from n = numbers (take n (drop from (s .buffers .values)))
 
 -- the null mask of what is described: its word, its null count
-unfoldable pub marksOf : Masked → List ℤ
-marksOf r = numbers (r .out ++ (r .answer .nulls ∷ []))
+unfoldable pub maskWords : Masked → List ℤ
+maskWords r = numbers (r .out ++ (r .answer .nulls ∷ []))
 
 unfoldable pub describedMarks : State → List ℤ
-describedMarks s = marksOf (logicalNullsOf ((finishClonedOf (s .builder) (s .buffers)) .array) (s .buffers) 10 (255 ∷ []))
+describedMarks s = maskWords (logicalNullsOf ((finishClonedOf (s .builder) (s .buffers)) .array) (s .buffers) 10 (255 ∷ []))
 
 -- ---- the table
-unfoldable pub table : List Row
-table =
+unfoldable pub rows : List Row
+rows =
     -- "no fields, no slots, sparse: accepted, mask absent"
-    edge (pos (checkedWith Sparse [] [] []) ∷ maskOf Sparse [] [] [] 10) (numbers (0 ∷ 0 ∷ 0 ∷ 0 ∷ 0 ∷ []))
+    edge (pos (checkedWith Sparse [] [] []) ∷ maskAt Sparse [] [] [] 10) (numbers (0 ∷ 0 ∷ 0 ∷ 0 ∷ 0 ∷ []))
     -- "ids 0 and 5, type id 3: 7", "type id -1: 7"
     ∷ edge (pos (checkedWith Sparse (plain 0 1 ∷ plain 5 1 ∷ []) (pos 3 ∷ []) []) ∷ []) (pos 7 ∷ [])
     ∷ edge (pos (checkedWith Sparse (plain 0 1 ∷ plain 5 1 ∷ []) (negsuc 0 ∷ []) []) ∷ []) (pos 7 ∷ [])
@@ -114,29 +122,32 @@ table =
     -- "offset bad in slot 0 and id bad in slot 1: 7"
     ∷ edge (pos (checkedWith Dense (plain 0 2 ∷ []) (pos 0 ∷ pos 1 ∷ []) (pos 2 ∷ pos 0 ∷ [])) ∷ []) (pos 7 ∷ [])
     -- "length 3: slice (3, 0) accepted, (3, 1): 9"
-    ∷ edge (pos ((sliceOf (array Sparse (plain 0 3 ∷ []) 3) (lent (replicate 3 (pos 0)) [] []) 3 0) .refusal) ∷ []) (pos 0 ∷ [])
-    ∷ edge (pos ((sliceOf (array Sparse (plain 0 3 ∷ []) 3) (lent (replicate 3 (pos 0)) [] []) 3 1) .refusal) ∷ []) (pos 9 ∷ [])
+    ∷ edge (pos (sliceAt 3 0) ∷ []) (pos 0 ∷ [])
+    ∷ edge (pos (sliceAt 3 1) ∷ []) (pos 9 ∷ [])
     -- "dense, no slots, two children of one null each: present, length 0"; "sparse, no slots, two children: absent"
-    ∷ edge (maskOf Dense (withMask 0 1 0 ∷ withMask 1 1 1 ∷ []) [] (0 ∷ 0 ∷ []) 10) (numbers (0 ∷ 1 ∷ 0 ∷ 2 ∷ []))
-    ∷ edge (maskOf Sparse (withMask 0 0 0 ∷ withMask 1 0 1 ∷ []) [] (0 ∷ 0 ∷ []) 10) (numbers (0 ∷ 0 ∷ 0 ∷ 0 ∷ []))
+    ∷ edge (maskAt Dense (withMask 0 1 0 ∷ withMask 1 1 1 ∷ []) [] (0 ∷ 0 ∷ []) 10) (numbers (0 ∷ 1 ∷ 0 ∷ 2 ∷ []))
+    ∷ edge (maskAt Sparse (withMask 0 0 0 ∷ withMask 1 0 1 ∷ []) [] (0 ∷ 0 ∷ []) 10) (numbers (0 ∷ 0 ∷ 0 ∷ 0 ∷ []))
     -- "sparse N=2 M=2 F=0 setting 2: route 4", "N=3 M=3 F=0 setting 2: route 3"
     ∷ edge (routeAt (withMask 0 2 0 ∷ withMask 1 2 0 ∷ []) (pos 0 ∷ pos 1 ∷ []) (1 ∷ []) 2) (pos 4 ∷ [])
     ∷ edge (routeAt (withMask 0 2 0 ∷ withMask 1 2 0 ∷ withMask 2 2 0 ∷ []) (pos 0 ∷ pos 1 ∷ []) (1 ∷ []) 2) (pos 3 ∷ [])
     -- "N=2 M=1 F=1 setting 10: route 5", "N=4 M=3 F=3 setting 10: route 6"
     ∷ edge (routeAt (withMask 0 2 0 ∷ plain 1 2 ∷ []) (pos 0 ∷ pos 1 ∷ []) (0 ∷ []) 10) (pos 5 ∷ [])
     ∷ edge (routeAt (withMask 0 2 0 ∷ withMask 1 2 0 ∷ withMask 2 2 0 ∷ plain 3 2 ∷ []) (pos 0 ∷ pos 1 ∷ []) (0 ∷ []) 10) (pos 6 ∷ [])
+    -- 14 allows each named strategy somewhere: "two or more fields; sparse ..; M = N for SkipOne"
+    ∷ edge (numbers (map (strategyAt (withMask 0 2 0 ∷ withMask 1 2 0 ∷ []) (pos 0 ∷ pos 1 ∷ []) (1 ∷ [])) (Gather ∷ SkipOne ∷ SkipWithoutNulls ∷ SkipFullyNull ∷ [])))
+    (numbers (0 ∷ 0 ∷ 0 ∷ 0 ∷ []))
     -- "Dense: A 7, 9; B null; offsets 0, 0, 1." "Ids 0, 1, 0; mask word 5, null count 1."
-    ∷ edge (wordsOf (three Dense) 0 2 ++ wordsOf (three Dense) 4 1) (numbers (7 ∷ 9 ∷ 0 ∷ []))
-    ∷ edge (take 3 ((three Dense) .buffers .offsets)) (numbers (0 ∷ 0 ∷ 1 ∷ []))
-    ∷ edge (take 3 ((three Dense) .buffers .ids)) (numbers (0 ∷ 1 ∷ 0 ∷ []))
-    ∷ edge (describedMarks (three Dense)) (numbers (5 ∷ 1 ∷ []))
+    ∷ edge (valueWords (afterThree Dense) 0 2 ++ valueWords (afterThree Dense) 4 1) (numbers (7 ∷ 9 ∷ 0 ∷ []))
+    ∷ edge (take 3 ((afterThree Dense) .buffers .offsets)) (numbers (0 ∷ 0 ∷ 1 ∷ []))
+    ∷ edge (take 3 ((afterThree Dense) .buffers .ids)) (numbers (0 ∷ 1 ∷ 0 ∷ []))
+    ∷ edge (describedMarks (afterThree Dense)) (numbers (5 ∷ 1 ∷ []))
     -- "Sparse: A 7, null, 9; B all null." "Ids 0, 1, 0; mask word 5, null count 1."
-    ∷ edge (wordsOf (three Sparse) 0 3 ++ wordsOf (three Sparse) 4 3) (numbers (7 ∷ 0 ∷ 9 ∷ 0 ∷ 0 ∷ 0 ∷ []))
-    ∷ edge (take 3 ((three Sparse) .buffers .ids)) (numbers (0 ∷ 1 ∷ 0 ∷ []))
-    ∷ edge (numbers (take 2 ((three Sparse) .buffers .masks))) (numbers (13 ∷ 8 ∷ []))
-    ∷ edge (describedMarks (three Sparse)) (numbers (5 ∷ 1 ∷ []))
+    ∷ edge (valueWords (afterThree Sparse) 0 3 ++ valueWords (afterThree Sparse) 4 3) (numbers (7 ∷ 0 ∷ 9 ∷ 0 ∷ 0 ∷ 0 ∷ []))
+    ∷ edge (take 3 ((afterThree Sparse) .buffers .ids)) (numbers (0 ∷ 1 ∷ 0 ∷ []))
+    ∷ edge (numbers (take 2 ((afterThree Sparse) .buffers .masks))) (numbers (13 ∷ 8 ∷ []))
+    ∷ edge (describedMarks (afterThree Sparse)) (numbers (5 ∷ 1 ∷ []))
     ∷ []
 
 -- each row's answer is what 01 says
 unfoldable pub Edges : Type 0
-Edges = map (λ r. r .answered) table ≡ map (λ r. r .said) table
+Edges = map (λ r. r .answered) rows ≡ map (λ r. r .said) rows

@@ -17,10 +17,10 @@ use Rattle.union_builder.specs.declared.Appended.{Appended}
 use Rattle.union_builder.specs.declared.Finished.{Finished}
 use Rattle.union_builder.specs.declared.UnionBuilder.{UnionBuilder}
 use Rattle.union_builder.specs.Append.{outcome, appendWith}
-use Rattle.union_ffi.specs.Numbers.{kindFrom, badNumber}
+use Rattle.union_array.specs.Numbers.{kindFrom, badNumber}
 use Rattle.logical_nulls.specs.declared.LogicalNulls.{LogicalNulls}
 use Rattle.logical_nulls.specs.declared.SparseStrategy.{SparseStrategy}
-use Rattle.logical_nulls.specs.Mask.{masked, logicalNullsOf, strategyOf}
+use Rattle.logical_nulls.specs.Mask.{withWords, logicalNullsOf, strategyOf}
 use Rattle.union_ffi.specs.Arrays.{CArray, CPart, arrayFrom, isArray, arrayTo, partOf}
 use Rattle.union_ffi.specs.Nulls.{CNulls, strategyFrom, isStrategy, nullsTo, cMasked, maskedTo, cLogicalNulls, cStrategy}
 use Rattle.union_ffi.specs.Builders.{CBuilder, CBuilt, CFinished, builderFrom, builderTo, isBuilder, built, appendedTo, finishedTo, cOutcome, outcomeTo, cAppendWith}
@@ -81,7 +81,7 @@ module _ (a : CArray) (m : Buffers) (s : ℕ) (out : List ℕ) where
   strategy-none e n = rw (e, n)
 
   pub strategy-good : isArray a ≡ true → isStrategy s ≡ true → (u : UnionArray) → u ≡ arrayFrom a → (k : SparseStrategy) → k ≡ strategyFrom s → (r : LogicalNulls) (after : List ℕ)
-      → masked r after ≡ strategyOf u m k out → (w : CNulls) → w ≡ nullsTo r → cMasked w after ≡ cStrategy a m s out
+      → withWords r after ≡ strategyOf u m k out → (w : CNulls) → w ≡ nullsTo r → cMasked w after ≡ cStrategy a m s out
   unfolding cStrategy
   strategy-good e n u eu k ek r after o w ew = rw (e, n, ew) (ap maskedTo (rw (eu, ek) at o))
 
@@ -91,6 +91,6 @@ module _ (a : CArray) (m : Buffers) (cost : ℕ) (out : List ℕ) where
   nulls-bad e = rw e
 
   pub nulls-good : isArray a ≡ true → (u : UnionArray) → u ≡ arrayFrom a → (r : LogicalNulls) (after : List ℕ)
-      → masked r after ≡ logicalNullsOf u m cost out → (w : CNulls) → w ≡ nullsTo r → cMasked w after ≡ cLogicalNulls a m cost out
+      → withWords r after ≡ logicalNullsOf u m cost out → (w : CNulls) → w ≡ nullsTo r → cMasked w after ≡ cLogicalNulls a m cost out
   unfolding cLogicalNulls
   nulls-good e u eu r after o w ew = rw (e, ew) (ap maskedTo (rw eu at o))

@@ -16,7 +16,8 @@ use Rattle.union_array.specs.declared.Column.{Column}
 use Rattle.union_array.specs.declared.Layout.{Layout}
 use Rattle.union_array.specs.declared.UnionArray.{UnionArray}
 use Rattle.union_array.specs.Types.{noColumn}
-use Rattle.union_ffi.specs.Numbers.{layoutFrom, layoutNumber, each, inUse, firstBy}
+use Rattle.union_array.specs.Numbers.{layoutFrom, layoutNumber}
+use Rattle.union_ffi.specs.Numbers.{each, entriesUsed, firstBy}
 use Rattle.union_ffi.specs.Arrays.{CColumn, CArray, CNamePlace, columnFrom, arrayFrom, columnTo, arrayTo}
 use Rattle.union_ffi.specs.Builders.{CBuilderColumn}
 
@@ -58,19 +59,19 @@ module _ {A B : Type 0} (f : A → B) where
   past (suc m) (suc n) (x ∷ xs) (y ∷ rest) h l = ap (λ (r : List B). f x ∷ r) (past m n xs rest (le-of-suc-le-suc h) (le-of-suc-le-suc l))
 
   -- of 128 entries, those in use are all that are meant
-  pub first-all : (n : ℕ) (xs : List A) (rest : List B) → length rest ≡ 128 → firstBy (inUse n) f xs rest ≡ firstBy n f xs rest
+  pub first-all : (n : ℕ) (xs : List A) (rest : List B) → length rest ≡ 128 → firstBy (entriesUsed n) f xs rest ≡ firstBy n f xs rest
   first-all n xs rest e =
       three n 128 (λ h. ap (λ (t : Bool). firstBy (cond t n 128) f xs rest) (lt-ltb n 128 h)) (λ h. over (omega arith)) (λ h. over (omega arith))
     where
-      over : 128 ≤ n → firstBy (inUse n) f xs rest ≡ firstBy n f xs rest
+      over : 128 ≤ n → firstBy (entriesUsed n) f xs rest ≡ firstBy n f xs rest
       over h = ap (λ (t : Bool). firstBy (cond t n 128) f xs rest) (le-ltb n 128 h) ∙ past 128 n xs rest (omega arith) h
 
   -- all turns are done
   pub first-done : (n k : ℕ) (xs : List A) (rest now : List B)
-      → now ≡ firstBy k f xs rest → k ≡ inUse n → length rest ≡ 128 → now ≡ firstBy n f xs rest
+      → now ≡ firstBy k f xs rest → k ≡ entriesUsed n → length rest ≡ 128 → now ≡ firstBy n f xs rest
   first-done n k xs rest now e a l = e ∙ ap (λ (m : ℕ). firstBy m f xs rest) a ∙ first-all n xs rest l
 
-pub in-use-most : (n : ℕ) → inUse n ≤ 128
+pub in-use-most : (n : ℕ) → entriesUsed n ≤ 128
 in-use-most n =
     three n 128 (λ h. rw (lt-ltb n 128 h) (omega arith)) (λ h. rw (le-ltb n 128 (omega arith)) (omega arith)) (λ h. rw (le-ltb n 128 (omega arith)) (omega arith))
 

@@ -1,164 +1,32 @@
--- Runs of appends. Assumes nothing.
-use mathlib.Core.Bool.{Bool, true, false, cond, _&&_}
-use mathlib.Core.Option.{Option, none, some}
+-- Runs of appends at the boundary. Assumes nothing.
+use mathlib.Core.Bool.{true, false}
 use mathlib.Core.List.{List}
-use mathlib.Core.Path.{_≡_, refl, sym, ap, ap₂, _∙_}
-use Prim.Native.Nat.{ℕ, zero, suc, _+_, _<_, _≤_}
-use native.Mathlib.Omega.{arith}
-use lib.Dec.{eqb, leb, ltb}
-use lib.ListN.{length, getD, set, take, drop}
-use borrow.Author.Tests.{lt-ltb, le-ltb, le-leb, lt-leb, leb-true, eqb-true}
-use Rattle.bitmap.specs.Lists.{times}
-use Rattle.bitmap.proofs.Tables.{both, times-more, retable-length}
-use Rattle.union_array.specs.declared.Kind.{Kind}
-use Rattle.union_array.specs.Types.{widthOf, lowBits}
-use Rattle.union_array.specs.Buffers.{Buffers, amountsOf}
-use Rattle.union_array.specs.Refusal.{ifYes}
-use Rattle.union_builder.specs.declared.Plan.{Plan}
+use mathlib.Core.Path.{_≡_, sym, ap, _∙_}
+use Prim.Native.Nat.{ℕ}
+use Rattle.union_array.specs.Buffers.{Buffers}
+use Rattle.union_array.specs.Numbers.{badNumber}
+use Rattle.union_builder.specs.declared.Appended.{Appended}
 use Rattle.union_builder.specs.declared.UnionBuilder.{UnionBuilder}
-use Rattle.union_builder.specs.Builder.{builderChecked}
-use Rattle.union_builder.specs.Append.{AppendOutcome, outcome, appendWith}
-use Rattle.union_builder.specs.Writing.{valueOf}
-use Rattle.union_builder.specs.Planning.{refusedPlan, Sound, settled, answerBy, appendedOf}
-use Rattle.union_builder.proofs.Appending.{append-value, append-none}
-use Rattle.union_builder.proofs.Keeping.{append-checked}
+use Rattle.union_builder.specs.Appends.{Readings, runOutcome, appendsOf}
+use Rattle.union_ffi.specs.Builders.{CBuilder, CBuilt, isBuilder, builderFrom, builderInto, built, appendedTo}
+use Rattle.union_ffi.specs.Appends.{cAppended, appendsTo, cAppends}
 use Rattle.union_ffi.proofs.Boundary.{answer-refused, answer-accepted}
-use Rattle.union_ffi.specs.Numbers.{kindFrom, flagFrom, badNumber, badLength}
-use Rattle.union_ffi.specs.Builders.{CBuilder, isBuilder, builderFrom, builderInto, built}
-use Rattle.union_ffi.specs.Appends.{Readings, isReading, valueFrom, readingOf, Appends, appends, appendsStep, lengthsMatch, cAppended, cAppends}
-
--- ---- one reading
-
-module _ (lent start size kind present : ℕ) where
-  pub reading-name : lent < start + size → false ≡ isReading lent start size kind present
-  unfolding isReading
-  reading-name h = rw (lt-leb (start + size) lent h)
-
-  pub reading-kind : start + size ≤ lent → 10 ≤ kind → false ≡ isReading lent start size kind present
-  unfolding isReading
-  reading-kind h k = rw (le-leb (start + size) lent h, le-ltb kind 10 k)
-
-  pub reading-flag : start + size ≤ lent → kind < 10 → ltb present 2 ≡ isReading lent start size kind present
-  unfolding isReading
-  reading-flag h k = rw (le-leb (start + size) lent h, lt-ltb kind 10 k)
-
-  pub reading-in : isReading lent start size kind present ≡ true → start + size ≤ lent
-  unfolding isReading
-  reading-in e = leb-true (start + size) lent (both (leb (start + size) lent) _ e .0)
-
-module _ (text : List ℕ) (start size kind present bits : ℕ) (b : UnionBuilder) (m : Buffers) where
-  pub reading-bad : isReading (length text) start size kind present ≡ false → (p : Plan) → p ≡ refusedPlan badNumber → (v : Option ℕ)
-      → outcome (answerBy b p v) m ≡ readingOf text start size kind present bits b m
-  unfolding readingOf
-  reading-bad e p h v = rw (e, h)
-
-  -- a refused plan is no plan of the builder
-  pub bad-sound : (p : Plan) → p ≡ refusedPlan badNumber → p .refusal ≡ 0 → Sound b p
-  bad-sound p e h = let n : _≡_ {A = ℕ} 128 0 = sym (ap (λ (q : Plan). q .refusal) e) ∙ h in absurd (omega arith)
-
-  module _ (e : isReading (length text) start size kind present ≡ true) (name : List ℕ) (en : name ≡ take size (drop start text)) (k : Kind) (ek : k ≡ kindFrom kind) (word : ℕ) (ew : word ≡ lowBits (widthOf k) bits) where
-    cut : (t : Bool) → appendedOf b m name k (valueOf t word) ≡ appendWith b m name k (cond t (some bits) none)
-    cut true = append-value b m name k bits word ew
-    cut false = append-none b m name k
-
-    pub reading-good : (o : AppendOutcome) → o ≡ appendedOf b m name k (valueOf (flagFrom present) word) → o ≡ readingOf text start size kind present bits b m
-    unfolding readingOf
-    reading-good o h = rw e (rw (en, ek) at (h ∙ cut (flagFrom present)))
-
-  -- 15 and 16 are answered after a reading as before it
-  reading-checked : builderChecked ((readingOf text start size kind present bits b m) .answer .builder) (amountsOf m) ≡ builderChecked b (amountsOf m)
-  unfolding readingOf
-  reading-checked = by (isReading (length text) start size kind present)
-    where
-      by : (t : Bool)
-          → builderChecked ((cond t (appendWith b m (take size (drop start text)) (kindFrom kind) (valueFrom present bits)) (outcome (record { builder = b; refusal = badNumber }) m)) .answer .builder) (amountsOf m)
-          ≡ builderChecked b (amountsOf m)
-      by true = append-checked b m (take size (drop start text)) (kindFrom kind) (valueFrom present bits)
-      by false = refl
-
--- ---- a run
-
-pub amounts-kept : (m m′ : Buffers) → length (m′ .ids) ≡ length (m .ids) → length (m′ .offsets) ≡ length (m .offsets) → length (m′ .values) ≡ length (m .values)
-    → length (m′ .masks) ≡ length (m .masks) → length (m′ .names) ≡ length (m .names) → amountsOf m′ ≡ amountsOf m
-amounts-kept m m′ hi ho hv hm hn = cc
-
--- the builder that follows a plan
-pub grown-no : (b : UnionBuilder) (p : Plan) (v : Option ℕ) → (p .refusal ≡ 0 → ⊥) → b ≡ (answerBy b p v) .builder
-grown-no b p v h = answer-refused (p .refusal) (settled b p v) b h
-
-pub grown-yes : (b : UnionBuilder) (p : Plan) (v : Option ℕ) (w : UnionBuilder) → p .refusal ≡ 0 → w ≡ settled b p v → w ≡ (answerBy b p v) .builder
-grown-yes b p v w h e = answer-accepted (p .refusal) w (settled b p v) b h e
-
--- one reading more
-module _ (r : Readings) (k : ℕ) (s : Appends) (b : UnionBuilder) (m : Buffers) (refusals : List ℕ) (p : Plan) (v : Option ℕ) (after : Buffers) (w : UnionBuilder)
-    (e : appends b m refusals ≡ times k (appendsStep r) s)
-    (h : outcome (answerBy b p v) after ≡ readingOf (r .text) (getD (r .starts) k 0) (getD (r .sizes) k 0) (getD (r .kinds) k 0) (getD (r .present) k 0) (getD (r .bits) k 0) b m)
-    (g : w ≡ (answerBy b p v) .builder) where
-  pub each-appends : appends w after (set refusals k (p .refusal)) ≡ times (k + 1) (appendsStep r) s
-  unfolding appendsStep
-  each-appends =
-      ap (λ (u : UnionBuilder). appends u after (set refusals k (p .refusal))) g
-      ∙ ap (λ (x : AppendOutcome). appends (x .answer .builder) (x .buffers) (set refusals k (x .answer .refusal))) h
-      ∙ ap (appendsStep r k) e
-      ∙ sym (times-more k (appendsStep r) s)
-
-  pub each-checked : (n : ℕ) → n ≡ builderChecked b (amountsOf m) → amountsOf after ≡ amountsOf m → n ≡ builderChecked w (amountsOf after)
-  each-checked n c a =
-      c
-      ∙ sym (reading-checked (r .text) (getD (r .starts) k 0) (getD (r .sizes) k 0) (getD (r .kinds) k 0) (getD (r .present) k 0) (getD (r .bits) k 0) b m)
-      ∙ ap₂ builderChecked (sym (g ∙ ap (λ (x : AppendOutcome). x .answer .builder) h)) (sym a)
-
-  pub each-full : length (b .columns) ≡ 128 → (p .refusal ≡ 0 → Sound b p) → length (w .columns) ≡ 128
-  unfolding settled
-  each-full f s = ap (λ (u : UnionBuilder). length (u .columns)) g ∙ at (p .refusal) s
-    where
-      at : (n : ℕ) → (n ≡ 0 → Sound b p) → length ((ifYes n (settled b p v) b) .columns) ≡ 128
-      at zero s = retable-length (p .count) _ (b .columns) (let few = s refl .few in omega arith) ∙ f
-      at (suc n) s = f
-
-pub record Matched (r : Readings) (lent : ℕ) : Type 0 where
-  pub sizes : length (r .sizes) ≡ length (r .starts)
-  pub kinds : length (r .kinds) ≡ length (r .starts)
-  pub present : length (r .present) ≡ length (r .starts)
-  pub bits : length (r .bits) ≡ length (r .starts)
-  pub room : length (r .starts) ≤ lent
-
-pub matched : (r : Readings) (lent : ℕ) → lengthsMatch r lent ≡ true → Matched r lent
-unfolding lengthsMatch
-matched r lent e =
-    let n = length (r .starts) in
-    let a = both (eqb (length (r .sizes)) n) _ e in
-    let b = both (eqb (length (r .kinds)) n) _ (a .1) in
-    let c = both (eqb (length (r .present)) n) _ (b .1) in
-    let d = both (eqb (length (r .bits)) n) (leb n lent) (c .1) in
-    record {
-      sizes = eqb-true (length (r .sizes)) n (a .0);
-      kinds = eqb-true (length (r .kinds)) n (b .0);
-      present = eqb-true (length (r .present)) n (c .0);
-      bits = eqb-true (length (r .bits)) n (d .0);
-      room = leb-true n lent (d .1);
-    }
-
-pub lengths-are : (r : Readings) (lent : ℕ)
-    → lengthsMatch r lent
-    ≡ (eqb (length (r .sizes)) (length (r .starts)) && (eqb (length (r .kinds)) (length (r .starts)) && (eqb (length (r .present)) (length (r .starts)) && (eqb (length (r .bits)) (length (r .starts)) && leb (length (r .starts)) lent))))
-unfolding lengthsMatch
-lengths-are r lent = refl
-
--- ---- at the boundary
 
 module _ (b : CBuilder) (m : Buffers) (r : Readings) (refusals : List ℕ) where
   pub appends-bad : isBuilder b ≡ false → cAppended (built b badNumber) m refusals ≡ cAppends b m r refusals
   unfolding cAppends
   appends-bad e = rw e
 
-  pub appends-length : isBuilder b ≡ true → lengthsMatch r (length refusals) ≡ false → cAppended (built b badLength) m refusals ≡ cAppends b m r refusals
-  unfolding cAppends
-  appends-length e h = rw (e, h)
+  module _ (e : isBuilder b ≡ true) (u : UnionBuilder) (eu : u ≡ builderFrom b) (a : Appended) (m' : Buffers) (refusals' : List ℕ) (o : runOutcome a m' refusals' ≡ appendsOf u m r refusals) where
+    by : (w : CBuilt) → w ≡ appendedTo b a → cAppended w m' refusals' ≡ cAppends b m r refusals
+    unfolding cAppends
+    by w ew = rw (e, ew) (ap (appendsTo b) (rw eu at o))
 
-  pub appends-good : isBuilder b ≡ true → lengthsMatch r (length refusals) ≡ true → (u after : UnionBuilder) → u ≡ builderFrom b → (m' : Buffers) (refusals' : List ℕ)
-      → appends after m' refusals' ≡ times (length (r .starts)) (appendsStep r) (appends u m refusals) → (w : CBuilder) → w ≡ builderInto b after
-      → cAppended (built w 0) m' refusals' ≡ cAppends b m r refusals
-  unfolding cAppends
-  appends-good e h u after eu m' refusals' o w ew =
-      rw (e, h, ew) (ap (λ (x : Appends). cAppended (built (builderInto b (x .builder)) 0) (x .buffers) (x .refusals)) (rw eu at o))
+    pub appends-refused : (a .refusal ≡ 0 → ⊥) → cAppended (built b (a .refusal)) m' refusals' ≡ cAppends b m r refusals
+    appends-refused h = by (built b (a .refusal)) (ap (λ (c : CBuilder). built c (a .refusal)) (answer-refused (a .refusal) (builderInto b (a .builder)) b h))
+
+    pub appends-accepted : a .refusal ≡ 0 → (w : CBuilder) → w ≡ builderInto b (a .builder) → cAppended (built w 0) m' refusals' ≡ cAppends b m r refusals
+    appends-accepted h w ew =
+        by (built w 0)
+        (ap (λ (c : CBuilder). built c 0) (answer-accepted (a .refusal) w (builderInto b (a .builder)) b h ew)
+        ∙ ap (λ (n : ℕ). built (appendedTo b a .builder) n) (sym h))

@@ -29,9 +29,9 @@ use Rattle.union_array.proofs.Accepted.{Accepted, accepted, SlotAccepted, child
 use Rattle.union_array.proofs.Columns.{found-id}
 use Rattle.union_array.proofs.Checked.{readable}
 use Rattle.union_array.proofs.ChildSlots.{within-sign}
-use Rattle.union_ffi.specs.Numbers.{badNumber, badLength}
+use Rattle.union_array.specs.Numbers.{badNumber, badLength}
 use Rattle.union_ffi.specs.Arrays.{CArray, isArray, arrayFrom}
-use Rattle.union_ffi.specs.Values.{firstNo, slotNo, runChecked, Values, valuesAnswer, hasRoom, valuesOf, cValues}
+use Rattle.union_ffi.specs.Values.{firstRefusal, slotNo, runChecked, Values, valuesAnswer, hasRoom, valuesOf, cValues}
 use Rattle.union_ffi.specs.Reading.{SlotValue, placeTable, slotValueOf, slotValueAt, InChild, RunAccepted}
 
 -- ---- the first number
@@ -45,21 +45,21 @@ then-some zero b h = absurd (h refl)
 then-some (suc a) b h = refl
 
 -- slot k is the first that fails
-pub first-at : (n : ℕ) (f : ℕ → ℕ) (k : ℕ) → firstNo k f ≡ 0 → k < n → (f k ≡ 0 → ⊥) → f k ≡ firstNo n f
+pub first-at : (n : ℕ) (f : ℕ → ℕ) (k : ℕ) → firstRefusal k f ≡ 0 → k < n → (f k ≡ 0 → ⊥) → f k ≡ firstRefusal n f
 first-at zero f k e h w = absurd (not-suc-le-zero h)
 first-at (suc n) f k e h w =
     last-or k n h
-    (λ (l : k < n). let q = first-at n f k e l w in q ∙ sym (then-some (firstNo n f) (f n) (λ z. w (q ∙ z))))
-    (λ (q : k ≡ n). ap f q ∙ sym (ap (λ (x : ℕ). x then f n) (ap (λ (i : ℕ). firstNo i f) (sym q) ∙ e)))
+    (λ (l : k < n). let q = first-at n f k e l w in q ∙ sym (then-some (firstRefusal n f) (f n) (λ z. w (q ∙ z))))
+    (λ (q : k ≡ n). ap f q ∙ sym (ap (λ (x : ℕ). x then f n) (ap (λ (i : ℕ). firstRefusal i f) (sym q) ∙ e)))
 
 -- one slot more
-pub first-turn : (f : ℕ → ℕ) (k : ℕ) → firstNo k f ≡ 0 → f k ≡ 0 → firstNo (k + 1) f ≡ 0
-first-turn f k e h = ap (λ (n : ℕ). firstNo n f) (add-one k) ∙ ap (λ (x : ℕ). x then f k) e ∙ h
+pub first-turn : (f : ℕ → ℕ) (k : ℕ) → firstRefusal k f ≡ 0 → f k ≡ 0 → firstRefusal (k + 1) f ≡ 0
+first-turn f k e h = ap (λ (n : ℕ). firstRefusal n f) (add-one k) ∙ ap (λ (x : ℕ). x then f k) e ∙ h
 
-pub first-each : (n : ℕ) (f : ℕ → ℕ) → firstNo n f ≡ 0 → (k : ℕ) → k < n → f k ≡ 0
+pub first-each : (n : ℕ) (f : ℕ → ℕ) → firstRefusal n f ≡ 0 → (k : ℕ) → k < n → f k ≡ 0
 first-each zero f e k h = absurd (not-suc-le-zero h)
 first-each (suc n) f e k h =
-    let y = then-none (firstNo n f) (f n) e in
+    let y = then-none (firstRefusal n f) (f n) e in
     last-or k n h (λ l. first-each n f (y .0) k l) (λ q. ap f q ∙ y .1)
 
 -- ---- 7 and 8 of a slot
@@ -133,11 +133,11 @@ module _ (a : UnionArray) (m : Buffers) (first n : ℕ) (ids : List ℤ) (missin
     number-ten e = rw (z, e)
 
     module _ (e : leb (first + n) (a .count) ≡ true) where
-      pub number-slot : (q : ℕ) → q ≡ firstNo n (λ k. slotNo a m (first + k)) → (q ≡ 0 → ⊥) → q ≡ number
+      pub number-slot : (q : ℕ) → q ≡ firstRefusal n (λ k. slotNo a m (first + k)) → (q ≡ 0 → ⊥) → q ≡ number
       unfolding runChecked
       number-slot q f h = rw (z, e, ← f) (sym (then-some q _ h))
 
-      module _ (f : firstNo n (λ k. slotNo a m (first + k)) ≡ 0) where
+      module _ (f : firstRefusal n (λ k. slotNo a m (first + k)) ≡ 0) where
         pub number-room : hasRoom n ids missing bits ≡ false → badLength ≡ number
         unfolding runChecked
         number-room r = rw (z, e, f, r)

@@ -20,7 +20,8 @@ use Rattle.union_array.specs.Refusal.{ifYes}
 use Rattle.union_array.specs.Questions.{asked}
 use Rattle.union_array.specs.Lookup.{tryNewOf, noValue, valueOf, typeIdOf, valueOffsetOf, childOf, noName, typeNamesOf, isDenseOf, isNullableOf}
 use Rattle.union_array.specs.Slices.{sliceOf}
-use Rattle.union_ffi.specs.Numbers.{kindFrom, layoutFrom, layoutNumber, isLayout, flagFrom, isCase, each, firstBy, atBoundary, badNumber}
+use Rattle.union_array.specs.Numbers.{kindFrom, layoutFrom, layoutNumber, isLayout, flagFrom, badNumber}
+use Rattle.union_ffi.specs.Numbers.{isCase, each, firstBy, atBoundary}
 pub use Rattle.union_ffi.specs.declared.CColumn.{CColumn}
 pub use Rattle.union_ffi.specs.declared.CArray.{CArray}
 pub use Rattle.union_ffi.specs.declared.CValue.{CValue}

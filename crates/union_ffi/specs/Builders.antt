@@ -18,7 +18,8 @@ use Rattle.union_builder.specs.declared.Finished.{Finished}
 use Rattle.union_builder.specs.Builder.{noBuilderColumn, madeOf}
 use Rattle.union_builder.specs.Append.{AppendOutcome, appendWith}
 use Rattle.union_builder.specs.Finish.{lenOf, finishClonedOf, finishOf}
-use Rattle.union_ffi.specs.Numbers.{kindFrom, isKind, layoutFrom, layoutNumber, isLayout, flagFrom, isCase, each, firstBy, atBoundary, badNumber}
+use Rattle.union_array.specs.Numbers.{kindFrom, isKind, layoutFrom, layoutNumber, isLayout, flagFrom, badNumber}
+use Rattle.union_ffi.specs.Numbers.{isCase, each, firstBy, atBoundary}
 use Rattle.union_ffi.specs.Arrays.{arrayTo}
 pub use Rattle.union_ffi.specs.declared.CBuilderColumn.{CBuilderColumn}
 pub use Rattle.union_ffi.specs.declared.CBuilder.{CBuilder}
@@ -79,7 +80,7 @@ appendedTo c r = built (ifYes (r .refusal) (builderInto c (r .builder)) c) (r .r
 
 -- the builder is handed back as it came
 abbrev pub lengthTo : CBuilder → Length → CLength
-lengthTo c l = record { builder = c; len = l .len; refusal = 0 }
+lengthTo c l = record { builder = c; len = l .len }
 
 abbrev pub clonedTo : CBuilder → Finished → CFinished
 clonedTo c f = record { builder = c; array = arrayTo (f .array); refusal = f .refusal }
@@ -108,8 +109,9 @@ unfoldable pub cAppendWith : CBuilder → Buffers → List ℕ → ℕ → Optio
 cAppendWith b m name kind v =
     atBoundary (isBuilder b && isKind kind) (outcomeTo b (appendWith (builderFrom b) m name (kindFrom kind) v)) (cOutcome (built b badNumber) m)
 
+-- "`len` asks none", not even whether its numbers name cases
 unfoldable pub cLen : CBuilder → CLength
-cLen b = atBoundary (isBuilder b) (lengthTo b (lenOf (builderFrom b))) (record { builder = b; len = 0; refusal = badNumber })
+cLen b = lengthTo b (lenOf (builderFrom b))
 
 abbrev pub notFinished : CBuilder → CFinished
 notFinished b = record { builder = b; array = arrayTo noArray; refusal = badNumber }

@@ -4,5 +4,6 @@ pub mod Arrays
 pub mod Nulls
 pub mod Builders
 pub mod Values
-pub mod Reading
 pub mod Appends
+-- What the contracts of inner functions cite.
+pub mod Reading

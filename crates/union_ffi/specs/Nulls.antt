@@ -9,7 +9,8 @@ use Rattle.logical_nulls.specs.declared.LogicalNulls.{LogicalNulls}
 use Rattle.logical_nulls.specs.declared.SparseStrategy.{SparseStrategy}
 use Rattle.logical_nulls.specs.declared.SparseStrategy.the-variants.{Gather, SkipOne, SkipWithoutNulls, SkipFullyNull}
 use Rattle.logical_nulls.specs.Mask.{Masked, logicalNullsOf, strategyOf, notMasked}
-use Rattle.union_ffi.specs.Numbers.{atBoundary, badNumber}
+use Rattle.union_array.specs.Numbers.{badNumber}
+use Rattle.union_ffi.specs.Numbers.{atBoundary}
 use Rattle.union_ffi.specs.Arrays.{CArray, arrayFrom, isArray}
 pub use Rattle.union_ffi.specs.declared.CNulls.{CNulls}
 

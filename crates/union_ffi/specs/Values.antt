@@ -12,13 +12,14 @@ use Rattle.union_array.specs.Buffers.{Buffers, amountsOf}
 use Rattle.union_array.specs.Refusal.{no, _then_, ifYes}
 use Rattle.union_array.specs.Questions.{namedAt, offsetFits, asked}
 use Rattle.union_array.specs.Lookup.{valueOf}
-use Rattle.union_ffi.specs.Numbers.{atBoundary, badNumber, badLength}
+use Rattle.union_array.specs.Numbers.{badNumber, badLength}
+use Rattle.union_ffi.specs.Numbers.{atBoundary}
 use Rattle.union_ffi.specs.Arrays.{CArray, isArray, arrayFrom}
 
 -- f 0, f 1, .., f (n - 1): the first of them that is not 0
-abbrev pub firstNo : ℕ → (ℕ → ℕ) → ℕ
-firstNo zero f = 0
-firstNo (suc n) f = firstNo n f then f n
+abbrev pub firstRefusal : ℕ → (ℕ → ℕ) → ℕ
+firstRefusal zero f = 0
+firstRefusal (suc n) f = firstRefusal n f then f n
 
 -- 7 and 8 of slot i
 abbrev pub slotNo : UnionArray → Buffers → ℕ → ℕ
@@ -29,7 +30,7 @@ unfoldable pub runChecked : UnionArray → Buffers → ℕ → ℕ → Bool → 
 runChecked a m first n room =
     asked a (amountsOf m)
     then no 10 (leb (first + n) (a .count))
-    then firstNo n (λ k. slotNo a m (first + k))
+    then firstRefusal n (λ k. slotNo a m (first + k))
     then no badLength room
 
 -- the number, and the outputs at exit

@@ -9,6 +9,7 @@ use crate::CBuilt;
 use crate::CFinished;
 use crate::CLength;
 use crate::convert;
+use union_array::kinds;
 use union_array::slices;
 use union_builder::Appended;
 use union_builder::Finished;
@@ -151,7 +152,7 @@ pub extern "C" fn union_builder_append(
         };
     }
     let b = convert::builder_from(builder);
-    let k = convert::kind_from(kind);
+    let k = kinds::kind_from(kind);
     let r = b.append(name, k, bits, type_ids, offsets, values, masks, names);
     appended_to(builder, r)
 }
@@ -185,27 +186,19 @@ pub extern "C" fn union_builder_append_null(
         };
     }
     let b = convert::builder_from(builder);
-    let k = convert::kind_from(kind);
+    let k = kinds::kind_from(kind);
     let r = b.append_null(name, k, type_ids, offsets, values, masks, names);
     appended_to(builder, r)
 }
 
-// How many slots there are.
+// How many slots there are. Nothing is asked.
 #[no_mangle]
 pub extern "C" fn union_builder_len(builder: CBuilder) -> CLength
     ensures { λ r. ⌜ r ≡ cLen builder ⌝ }
 {
-    if !convert::is_builder(builder) {
-        return CLength {
-            builder: builder,
-            len: 0,
-            refusal: 128,
-        };
-    }
     CLength {
         builder: builder,
         len: builder.len,
-        refusal: 0,
     }
 }
 

@@ -1,8 +1,8 @@
-// Numbers and C structs, read as the crates below have them, and written back.
+// Numbers and C structs, read as the crates below have them, and written back. `c` is the struct that the caller has.
 ghost use mathlib.Core.Path.{_≡_};
 ghost use Rattle.bitmap.specs.Bits.{digit};
-ghost use Rattle.union_array.specs.Types.{kindNumber};
-ghost use Rattle.union_ffi.specs.Numbers.{kindFrom, layoutFrom, layoutNumber, isCase, inUse};
+ghost use Rattle.union_array.specs.Numbers.{layoutFrom, layoutNumber};
+ghost use Rattle.union_ffi.specs.Numbers.{isCase, entriesUsed};
 ghost use Rattle.union_ffi.specs.Arrays.{columnFrom, arrayFrom, isArray, columnTo, arrayTo, valueTo, flagTo, typeNamesTo};
 ghost use Rattle.union_ffi.specs.Builders.{builderColumnFrom, builderFrom, isBuilder, builderColumnTo, builderTo, builderInto};
 use crate::CArray;
@@ -20,44 +20,10 @@ use union_array::Layout;
 use union_array::TypeNames;
 use union_array::UnionArray;
 use union_array::Value;
+use union_array::kinds::kind_from;
+use union_array::kinds::kind_number;
 use union_builder::BuilderColumn;
 use union_builder::UnionBuilder;
-
-// The kind with a number; any other number is read as Int8.
-pub fn kind_from(n: u8) -> Kind
-    ensures { λ r. ⌜ r ≡ kindFrom n ⌝ }
-{
-    match n {
-        1 => Kind::Int16,
-        2 => Kind::Int32,
-        3 => Kind::Int64,
-        4 => Kind::UInt8,
-        5 => Kind::UInt16,
-        6 => Kind::UInt32,
-        7 => Kind::UInt64,
-        8 => Kind::Float32,
-        9 => Kind::Float64,
-        _ => Kind::Int8,
-    }
-}
-
-// A kind's number.
-fn kind_to(kind: Kind) -> u8
-    ensures { λ r. ⌜ r ≡ kindNumber kind ⌝ }
-{
-    match kind {
-        Kind::Int8 => 0,
-        Kind::Int16 => 1,
-        Kind::Int32 => 2,
-        Kind::Int64 => 3,
-        Kind::UInt8 => 4,
-        Kind::UInt16 => 5,
-        Kind::UInt32 => 6,
-        Kind::UInt64 => 7,
-        Kind::Float32 => 8,
-        Kind::Float64 => 9,
-    }
-}
 
 // The layout with a number; any other number is read as sparse.
 fn layout_from(n: u8) -> Layout
@@ -80,7 +46,7 @@ fn layout_to(layout: Layout) -> u8
 }
 
 // A flag's number.
-pub fn flag_to(flag: bool) -> u8
+pub(crate) fn flag_to(flag: bool) -> u8
     ensures { λ r. ⌜ r ≡ digit flag ⌝ }
 {
     if flag {
@@ -101,7 +67,7 @@ fn is_case(kind: u8, masked: u8) -> bool
 
 // How many of 128 entries are in use.
 fn in_use(n: usize) -> usize
-    ensures { λ r. ⌜ r ≡ inUse n ⌝ }
+    ensures { λ r. ⌜ r ≡ entriesUsed n ⌝ }
 {
     if n < 128 {
         return n;
@@ -125,37 +91,37 @@ fn column_from(c: CColumn) -> Column
     }
 }
 
-pub fn column_to(c: Column) -> CColumn
-    ensures { λ r. ⌜ r ≡ columnTo c ⌝ }
+pub(crate) fn column_to(column: Column) -> CColumn
+    ensures { λ r. ⌜ r ≡ columnTo column ⌝ }
 {
-    let kind = c.kind;
+    let kind = column.kind;
     CColumn {
-        values: c.values,
-        mask: c.mask,
-        name: c.name,
-        slots: c.slots,
-        bit: c.bit,
-        size: c.size,
-        id: c.id,
-        kind: kind_to(kind),
-        masked: flag_to(c.masked),
+        values: column.values,
+        mask: column.mask,
+        name: column.name,
+        slots: column.slots,
+        bit: column.bit,
+        size: column.size,
+        id: column.id,
+        kind: kind_number(kind),
+        masked: flag_to(column.masked),
     }
 }
 
 // Whether each number of an array's columns in use names a case, and its layout does.
-pub fn is_array(a: CArray) -> bool
-    ensures { λ r. ⌜ r ≡ isArray a ⌝ }
+pub(crate) fn is_array(c: CArray) -> bool
+    ensures { λ r. ⌜ r ≡ isArray c ⌝ }
 {
-    if 1 < a.layout {
+    if 1 < c.layout {
         return false;
     }
     let mut k: usize = 0;
     while k < 128 {
-        if a.fields <= k {
+        if c.fields <= k {
             return true;
         }
-        let c = a.columns[k];
-        if !is_case(c.kind, c.masked) {
+        let e = c.columns[k];
+        if !is_case(e.kind, e.masked) {
             return false;
         }
         k += 1;
@@ -164,38 +130,38 @@ pub fn is_array(a: CArray) -> bool
 }
 
 // An array as a caller describes it. Only the columns in use are read.
-pub fn array_from(a: CArray) -> UnionArray
-    ensures { λ r. ⌜ r ≡ arrayFrom a ⌝ }
+pub(crate) fn array_from(c: CArray) -> UnionArray
+    ensures { λ r. ⌜ r ≡ arrayFrom c ⌝ }
 {
     let zeros = union_array::questions::no_column();
     let mut columns = [zeros; 128];
-    let n = in_use(a.fields);
+    let n = in_use(c.fields);
     for k in 0..n {
-        let c = a.columns[k];
-        columns[k] = column_from(c);
+        let e = c.columns[k];
+        columns[k] = column_from(e);
     }
     UnionArray {
         columns: columns,
-        fields: a.fields,
-        children: a.children,
-        start: a.start,
-        count: a.count,
-        offsets_start: a.offsets_start,
-        offsets_count: a.offsets_count,
-        layout: layout_from(a.layout),
+        fields: c.fields,
+        children: c.children,
+        start: c.start,
+        count: c.count,
+        offsets_start: c.offsets_start,
+        offsets_count: c.offsets_count,
+        layout: layout_from(c.layout),
     }
 }
 
 // An array as it is described to a caller.
-pub fn array_to(a: UnionArray) -> CArray
+pub(crate) fn array_to(a: UnionArray) -> CArray
     ensures { λ r. ⌜ r ≡ arrayTo a ⌝ }
 {
     let zeros = column_to(union_array::questions::no_column());
     let mut columns = [zeros; 128];
     let n = in_use(a.fields);
     for k in 0..n {
-        let c = a.columns[k];
-        columns[k] = column_to(c);
+        let e = a.columns[k];
+        columns[k] = column_to(e);
     }
     let layout = a.layout;
     CArray {
@@ -210,7 +176,7 @@ pub fn array_to(a: UnionArray) -> CArray
     }
 }
 
-pub fn value_to(v: Value) -> CValue
+pub(crate) fn value_to(v: Value) -> CValue
     ensures { λ r. ⌜ r ≡ valueTo v ⌝ }
 {
     let kind = v.kind;
@@ -221,12 +187,12 @@ pub fn value_to(v: Value) -> CValue
         size: v.size,
         refusal: v.refusal,
         id: v.id,
-        kind: kind_to(kind),
+        kind: kind_number(kind),
         missing: flag_to(v.missing),
     }
 }
 
-pub fn flag_answer_to(f: Flag) -> CFlag
+pub(crate) fn flag_answer_to(f: Flag) -> CFlag
     ensures { λ r. ⌜ r ≡ flagTo f ⌝ }
 {
     CFlag {
@@ -235,7 +201,7 @@ pub fn flag_answer_to(f: Flag) -> CFlag
     }
 }
 
-pub fn type_names_to(t: TypeNames) -> CTypeNames
+pub(crate) fn type_names_to(t: TypeNames) -> CTypeNames
     ensures { λ r. ⌜ r ≡ typeNamesTo t ⌝ }
 {
     let mut names = [CNamePlace { start: 0, size: 0 }; 128];
@@ -265,32 +231,32 @@ fn builder_column_from(c: CBuilderColumn) -> BuilderColumn
     }
 }
 
-fn builder_column_to(c: BuilderColumn) -> CBuilderColumn
-    ensures { λ r. ⌜ r ≡ builderColumnTo c ⌝ }
+fn builder_column_to(column: BuilderColumn) -> CBuilderColumn
+    ensures { λ r. ⌜ r ≡ builderColumnTo column ⌝ }
 {
-    let kind = c.kind;
+    let kind = column.kind;
     CBuilderColumn {
-        slots: c.slots,
-        size: c.size,
-        kind: kind_to(kind),
-        masked: flag_to(c.masked),
+        slots: column.slots,
+        size: column.size,
+        kind: kind_number(kind),
+        masked: flag_to(column.masked),
     }
 }
 
-// Whether each number of a builder's columns names a case, and its layout does.
-pub fn is_builder(b: CBuilder) -> bool
-    ensures { λ r. ⌜ r ≡ isBuilder b ⌝ }
+// Whether each number of a builder's columns in use names a case, and its layout does.
+pub(crate) fn is_builder(c: CBuilder) -> bool
+    ensures { λ r. ⌜ r ≡ isBuilder c ⌝ }
 {
-    if 1 < b.layout {
+    if 1 < c.layout {
         return false;
     }
     let mut k: usize = 0;
     while k < 128 {
-        if b.count <= k {
+        if c.count <= k {
             return true;
         }
-        let c = b.columns[k];
-        if !is_case(c.kind, c.masked) {
+        let e = c.columns[k];
+        if !is_case(e.kind, e.masked) {
             return false;
         }
         k += 1;
@@ -299,8 +265,8 @@ pub fn is_builder(b: CBuilder) -> bool
 }
 
 // A builder as a caller keeps it. Only the columns in use are read.
-pub fn builder_from(b: CBuilder) -> UnionBuilder
-    ensures { λ r. ⌜ r ≡ builderFrom b ⌝ }
+pub(crate) fn builder_from(c: CBuilder) -> UnionBuilder
+    ensures { λ r. ⌜ r ≡ builderFrom c ⌝ }
 {
     let zeros = BuilderColumn {
         slots: 0,
@@ -309,23 +275,23 @@ pub fn builder_from(b: CBuilder) -> UnionBuilder
         masked: false,
     };
     let mut columns = [zeros; 128];
-    let n = in_use(b.count);
+    let n = in_use(c.count);
     for k in 0..n {
-        let c = b.columns[k];
-        columns[k] = builder_column_from(c);
+        let e = c.columns[k];
+        columns[k] = builder_column_from(e);
     }
     UnionBuilder {
         columns: columns,
-        capacity: b.capacity,
-        limit: b.limit,
-        len: b.len,
-        count: b.count,
-        layout: layout_from(b.layout),
+        capacity: c.capacity,
+        limit: c.limit,
+        len: c.len,
+        count: c.count,
+        layout: layout_from(c.layout),
     }
 }
 
 // A builder as it is handed to a caller who keeps `c`: entries past the columns in use stay as they are.
-pub fn builder_into(c: CBuilder, b: UnionBuilder) -> CBuilder
+pub(crate) fn builder_into(c: CBuilder, b: UnionBuilder) -> CBuilder
     ensures { λ r. ⌜ r ≡ builderInto c b ⌝ }
 {
     let mut columns = c.columns;
@@ -346,7 +312,7 @@ pub fn builder_into(c: CBuilder, b: UnionBuilder) -> CBuilder
 }
 
 // A builder as it is handed to a caller who kept none.
-pub fn builder_to(b: UnionBuilder) -> CBuilder
+pub(crate) fn builder_to(b: UnionBuilder) -> CBuilder
     ensures { λ r. ⌜ r ≡ builderTo b ⌝ }
 {
     let zeros = CBuilder {

@@ -1,10 +1,10 @@
 // The calls for C and Rust: plain numbers, C structs of numbers, and slices.
-pub mod appends;
-pub mod array;
-pub mod builder;
-pub mod convert;
-pub mod nulls;
-pub mod values;
+mod appends;
+mod array;
+mod builder;
+mod convert;
+mod nulls;
+mod values;
 
 // A column list's entry. `kind` is 0 to 9 in the order of `union_array::Kind`, `masked` 0 or 1.
 #[repr(C)]
@@ -132,7 +132,6 @@ pub struct CBuilt {
 pub struct CLength {
     pub builder: CBuilder,
     pub len: usize,
-    pub refusal: u8,
 }
 
 #[repr(C)]
@@ -143,7 +142,7 @@ pub struct CFinished {
 }
 
 // A slot's value, as a run tells it.
-pub struct SlotValue {
-    pub bits: u64,
-    pub missing: u8,
+pub(crate) struct SlotValue {
+    pub(crate) bits: u64,
+    pub(crate) missing: u8,
 }

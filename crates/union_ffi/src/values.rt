@@ -14,7 +14,7 @@ ghost use Rattle.union_array.specs.Buffers.{buffersOf};
 ghost use Rattle.union_array.specs.Slots.{typeIdAt};
 ghost use Rattle.union_array.specs.Questions.{within};
 ghost use Rattle.union_array.specs.Check.{onlySlots};
-ghost use Rattle.union_ffi.specs.Values.{firstNo, slotNo, valuesAnswer, valuesOf, cValues};
+ghost use Rattle.union_ffi.specs.Values.{firstRefusal, slotNo, valuesAnswer, valuesOf, cValues};
 ghost use Rattle.union_ffi.specs.Reading.{placeTable, slotValueOf, slotValueAt, InChild, RunReadable, RunAccepted};
 use crate::CArray;
 use crate::SlotValue;
@@ -64,7 +64,7 @@ fn check_run(
     offsets: &[i32],
 ) -> u8
     requires { ⌜ RunReadable a places first n (now «type_ids») (now offsets) ⌝ }
-    ensures { λ r. ⌜ r ≡ firstNo n (λ k. slotNo a (onlySlots (now («type_ids» .entry)) (now (offsets .entry))) (first + k)) ⌝ }
+    ensures { λ r. ⌜ r ≡ firstRefusal n (λ k. slotNo a (onlySlots (now («type_ids» .entry)) (now (offsets .entry))) (first + k)) ⌝ }
 {
     let layout = a.layout;
     let mut k: usize = 0;
@@ -163,7 +163,7 @@ fn has_room(n: usize, a: usize, b: usize, c: usize) -> bool
 }
 
 // The ids, the presence and the values of n slots from `first` on.
-pub fn read_run(
+fn read_run(
     a: UnionArray,
     first: usize,
     n: usize,

@@ -26,12 +26,12 @@ use Rattle.union_array.specs.declared.Layout.the-variants.{Dense, Sparse}
 use Rattle.union_array.specs.declared.UnionArray.{UnionArray}
 use Rattle.union_array.specs.declared.Value.{Value}
 use Rattle.null_route.specs.Route.{cheaper, fullyNulls, hasNull, howMany, routeOf, sparseRoute, withNulls}
-use Rattle.null_route.specs.Setting.{question12}
+use Rattle.null_route.specs.Setting.{question12, settingOf}
 use Rattle.null_route.specs.declared.Choice.{Choice}
-use Rattle.logical_nulls.specs.Mask.{logicalNullsOf, masked, maskedBy, question14, strategyOf, strategyRoute}
+use Rattle.logical_nulls.specs.Mask.{logicalNullsOf, maskedBy, question14, strategyOf, strategyRoute, withWords}
 use Rattle.logical_nulls.specs.declared.SparseStrategy.{SparseStrategy}
 use Rattle.logical_nulls.specs.declared.SparseStrategy.the-variants.{Gather, SkipFullyNull, SkipOne, SkipWithoutNulls}
-use Rattle.union_history.specs.Claim.{Marks}
+use Rattle.union_history.specs.Claim.{isSetting, Marks}
 use Rattle.union_history.proofs.Yes.{and-both}
 use Rattle.union_array.proofs.Accepted.{accepted}
 use Rattle.union_array.proofs.Columns.{all-found}
@@ -108,7 +108,7 @@ module _ (a : UnionArray) (m : Buffers) (g : asked a (amountsOf m) ≡ 0) (missi
   -- whichever way the mask is made
   marks-with : (pr : Bool) (route : ℕ) (out : List ℕ) → (pr ≡ true → (i : ℕ) → i < a .count → bitAt out i ≡ not (slotNull a m i))
       → (pr ≡ false → (i : ℕ) → i < a .count → slotNull a m i ≡ false)
-      → Marks (a .count) missing (masked (record { nulls = cond pr (count (a .count) (slotNull a m)) 0; refusal = 0; route = route; present = pr }) out)
+      → Marks (a .count) missing (withWords (record { nulls = cond pr (count (a .count) (slotNull a m)) 0; refusal = 0; route = route; present = pr }) out)
   marks-with true route out h k = record {
     accepted = refl;
     marked = λ i q. ap not (h refl i q) ∙ not-not (slotNull a m i) ∙ (slots i q) .isNull;
@@ -128,7 +128,7 @@ module _ (a : UnionArray) (m : Buffers) (g : asked a (amountsOf m) ≡ 0) (missi
       nulls = count (a .count) (slotNull a m)
 
       go : (t : Bool) → leb 3 route ≡ t → (u : Bool) → eqb route 0 ≡ u
-          → Marks (a .count) missing (masked
+          → Marks (a .count) missing (withWords
           (record { nulls = cond (cond t (not (eqb nulls 0)) (not u)) nulls 0; refusal = 0; route = route; present = cond t (not (eqb nulls 0)) (not u) })
           (cond u out (written (a .count) (slotNull a m) out)))
       go true te true ue = absurd (omega (arith, leb-true 3 route te, eqb-true route 0 ue))
@@ -181,8 +181,8 @@ module _ (a : UnionArray) (m : Buffers) (g : asked a (amountsOf m) ≡ 0) (missi
         every-all (a .count) (offsetFits a m) (λ i q. (slots i q) .inside),
       )
 
-  pub mask-marks : (cost : ℕ) (out : List ℕ) → question12 cost ≡ true → wordsFor (a .count) ≤ length out → Marks (a .count) missing (logicalNullsOf a m cost out)
-  unfolding logicalNullsOf
+  pub mask-marks : (cost : ℕ) (out : List ℕ) → isSetting cost ≡ true → wordsFor (a .count) ≤ length out → Marks (a .count) missing (logicalNullsOf a m cost out)
+  unfolding logicalNullsOf settingOf question12
   mask-marks cost out s w = rw (passes, s, le-leb _ _ w) (marks-on (routeOf a m cost) out (route-zero cost))
 
   pub strategy-marks : (s : SparseStrategy) (out : List ℕ) → question14 s a m ≡ true → wordsFor (a .count) ≤ length out → Marks (a .count) missing (strategyOf a m s out)

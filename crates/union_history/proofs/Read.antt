@@ -1,6 +1,6 @@
 -- An array of the log's, over memory that holds the log, tells its entries.
 use mathlib.Core.Bool.{Bool, _||_, cond, false, not, true}
-use mathlib.Core.List.{List, [], _∷_}
+use mathlib.Core.List.{List, [], _++_, _∷_}
 use mathlib.Core.Option.{Option, none, some}
 use mathlib.Core.Path.{_∙_, _≡_, ap, refl, subst, sym}
 use Prim.Native.Nat.{_*_, _+_, _-_, _<_, _≤_, suc, zero, ℕ}
@@ -9,11 +9,11 @@ use native.Mathlib.Omega.{arith}
 use lib.Dec.{eqb, leb}
 use lib.IntN.{natAbs, pos, ℤ}
 use lib.ListN.{getD, length, length-map, replicate}
-use lib.Seq.{take-at}
+use lib.Seq.{take-at, take-take}
 use borrow.Author.Tests.{le-leb, lt-ltb}
 use Rattle.bitmap.specs.Bits.{bitAt, wordsFor}
 use Rattle.union_array.specs.Buffers.{Buffers, amountsOf}
-use Rattle.union_array.specs.Lookup.{columnValue, padded, typeIdOf, valueOf, valueOffsetOf}
+use Rattle.union_array.specs.Lookup.{childOf, columnValue, padded, typeIdOf, valueOf, valueOffsetOf}
 use Rattle.union_array.specs.Questions.{asked, columnIn, partIn, question1, question3, question4, question5, question6, slotChecked, validId}
 use Rattle.union_array.specs.Refusal.{ifYes}
 use Rattle.union_array.specs.Slots.{all, childAt, columnOf, inUse, isSome, offsetAt, present, slotAt, typeIdAt}
@@ -27,7 +27,8 @@ use Rattle.logical_nulls.specs.Mask.{logicalNullsOf, strategyOf}
 use Rattle.union_builder.specs.Append.{isNone, orElse}
 use Rattle.union_builder.specs.Finish.{Named, assembled, ordered}
 use Rattle.union_builder.specs.declared.BuilderColumn.{BuilderColumn}
-use Rattle.union_history.specs.Claim.{Cut, Cuts, Marks, Shows, cutBy, entryMissing, entrySlot, entryValue, lastCount, logArray, logColumn, maskOf, slotsOf, sumOf}
+use Rattle.union_history.specs.Claim.{ChainAccepted, Marks, SameColumn, Shows, SliceCall, chain, entryMissing, entrySlot, entryValue, lastCount, logArray, logColumn, maskOf, nameTold, slotSum, slotsOf, sumOf}
+use Rattle.union_history.specs.Listing.{InOrder}
 use Rattle.union_history.specs.Log.{Entry, Log, LogColumn, noEntry, noLogColumn}
 use Rattle.union_history.proofs.Yes.{and-both}
 use Rattle.union_history.proofs.Stores.{mask-room}
@@ -36,7 +37,9 @@ use Rattle.union_history.proofs.Inv.{Counted, Held, Holds, Limits, logO
 use Rattle.union_history.proofs.Step.{Lent, slotsOf-le}
 use Rattle.union_history.proofs.Order.{columnsOf, ordered-all, ordered-column, ordered-distinct, ordered-length}
 use Rattle.union_array.proofs.SlicedSlots.{told, value-told}
-use Rattle.union_history.proofs.Slices.{Yes, all-yes, chain-asked, chain-count, chain-layout, chain-offsets, chain-start, chain-value, slice-accepted}
+use Rattle.union_history.proofs.Slices.{Yes, all-yes, chain-asked, chain-count, chain-in-order, chain-layout, chain-offsets, chain-start, chain-value, slice-accepted}
+use Rattle.union_history.proofs.Sorted.{assembled-in-order}
+use Rattle.union_history.proofs.Sums.{slots-sum}
 use Rattle.union_history.proofs.Nulls.{Slot, mask-marks, passes, slot-of, slot-passes, strategy-marks}
 
 -- ---- missing or not
@@ -213,10 +216,53 @@ module _ (l : Layout) (C K : ℕ) (cols : List LogColumn) (es : List Entry) (cs 
   unfolding logArray assembled
   log-start = refl
 
+  in-order : InOrder (logArray l bk) m
+  unfolding logArray
+  in-order = assembled-in-order l (length es) (length cols) row m own (λ j h. hold .name j h)
+
+  -- ---- of two entries
+  abbrev columnOfEntry : Entry → LogColumn
+  columnOfEntry e = record { name = e .name; kind = e .kind }
+
+  told-name : (i : ℕ) → i < length es → nameTold (entryValue (getD es i noEntry)) ≡ (getD es i noEntry) .name
+  unfolding padded
+  told-name i h =
+      let e : Entry = getD es i noEntry in
+      let q : Held l C m cols i e (ownSlot l es i) = hold .held i h in
+      let f : length (e .name) ≤ 32 = subst (λ (c : LogColumn). length (c .name) ≤ 32) (q .named) (inv .nameFits (e .id) (q .known)) in
+      take-take (length (e .name)) 32 (e .name ++ replicate 32 0) f ∙ take-at (e .name) (replicate 32 0) (length (e .name)) refl
+
+  same-column : (i j : ℕ) → i < length es → j < length es → SameColumn (entryValue (getD es i noEntry)) (entryValue (getD es j noEntry))
+  same-column i j h g =
+      let p : Held l C m cols i (getD es i noEntry) (ownSlot l es i) = hold .held i h in
+      let q : Held l C m cols j (getD es j noEntry) (ownSlot l es j) = hold .held j g in
+      let column : pos ((getD es i noEntry) .id) ≡ pos ((getD es j noEntry) .id) → columnOfEntry (getD es i noEntry) ≡ columnOfEntry (getD es j noEntry)
+      = λ e. sym (p .named) ∙ ap (λ (k : ℕ). getD cols k noLogColumn) (cc) ∙ q .named in
+      record {
+        byId = λ e. told-name i h ∙ ap (λ (c : LogColumn). c .name) (column e) ∙ sym (told-name j g);
+        byName = λ e. ap pos (inv .apart ((getD es i noEntry) .id) ((getD es j noEntry) .id) (p .known) (q .known)
+            (ap (λ (c : LogColumn). c .name) (p .named) ∙ sym (told-name i h) ∙ e ∙ told-name j g ∙ sym (ap (λ (c : LogColumn). c .name) (q .named))));
+        kind = λ e. ap (λ (c : LogColumn). c .kind) (column e);
+      }
+
+  -- ---- the columns
+  pub tells-fields : (logArray l bk) .fields ≡ length cols
+  unfolding logArray assembled
+  tells-fields = refl
+
+  pub tells-child : (k : ℕ) → k < length cols → childOf (logArray l bk) m (pos k) ≡ record { column = logColumn l bk k; refusal = 0 }
+  unfolding childOf
+  tells-child k h =
+      let c : columnOf (inUse (logArray l bk)) (pos k) ≡ some (logColumn l bk k) = ap (λ (x : List Column). columnOf x (pos k)) in-use ∙ ordered-column row own (length cols) k h in
+      rw (good, c)
+
+  pub tells-sum : l ≡ Dense → slotSum (inUse (logArray l bk)) ≡ length es
+  tells-sum d = ap slotSum in-use ∙ slots-sum (length cols) row es (λ k. ap (λ (x : Layout). slotsOf x k es) d) (inv .ids)
+
   -- a chain of slices of it
-  module _ (ps : List Cut) (k : Cuts (logArray l bk) ps) where
+  module _ (ps : List SliceCall) (k : ChainAccepted (logArray l bk) ps) where
     abbrev part : UnionArray
-    part = cutBy (logArray l bk) ps
+    part = chain (logArray l bk) ps
 
     abbrev n : ℕ
     n = lastCount (length es) ps
@@ -270,6 +316,11 @@ module _ (l : Layout) (C K : ℕ) (cols : List LogColumn) (es : List Entry) (cs 
       values = λ i h. part-value i (rw part-count h);
       typeIds = λ i h. part-type i (rw part-count h);
       offsets = λ i h. part-offset i (rw part-count h);
+      names = λ i j h q.
+          let u : i < part .count = rw part-count h in
+          let w : j < part .count = rw part-count q in
+          rw (part-value i u, part-value j w) (same-column (sumOf ps + i) (sumOf ps + j) (part-in i u) (part-in j w));
+      order = chain-in-order (logArray l bk) m ps k in-order;
       rising = λ i j h q e. slot-rise l es (sumOf ps) i j h (part-in j (rw part-count q)) e;
       nulls = λ cost out s w.
           subst (λ (c : ℕ). Marks c (entryMissing es (sumOf ps)) (logicalNullsOf part m cost out)) part-count

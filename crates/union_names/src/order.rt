@@ -4,7 +4,8 @@ ghost use mathlib.Core.List.{_∷_, _++_};
 ghost use Prim.Native.Nat.{_+_, _*_, _<_, _≤_};
 ghost use lib.ListN.{length, take, drop};
 ghost use Rattle.union_names.specs.Names.{nameUpTo};
-ghost use Rattle.union_names.specs.Order.{nameBy, leading, goesBefore, NamesHeld, Listed};
+ghost use Rattle.union_names.specs.Order.{nameBy, goesBefore, orderOf, NamesHeld};
+ghost use Rattle.union_names.specs.Listing.{leading, Listed};
 
 // Whether the first name is at most the second, by bytes.
 pub(crate) fn name_up_to(x: &[u8], y: &[u8]) -> bool
@@ -62,8 +63,7 @@ fn place_of(names: &[u8], sizes: &[u8], order: &[u8], k: usize) -> usize
 // Puts k in at a place among the first k ids; those from there on move up by one.
 fn insert_at(order: &mut [u8], place: usize, k: usize)
     requires { ⌜ (place ≤ k) × (k < length (now order)) × (k < 128) ⌝ }
-    ensures { λ _. ⌜ take (k + 1) (now (order .exit)) ≡ take place (now (order .entry)) ++ k ∷ drop place (take k (now (order .entry))) ⌝ }
-    ensures { λ _. ⌜ length (now (order .exit)) ≡ length (now (order .entry)) ⌝ }
+    ensures { λ _. ⌜ now (order .exit) ≡ take place (now (order .entry)) ++ k ∷ drop place (take k (now (order .entry))) ++ drop (k + 1) (now (order .entry)) ⌝ }
 {
     let mut i = k;
     while place < i {
@@ -73,10 +73,10 @@ fn insert_at(order: &mut [u8], place: usize, k: usize)
     order[place] = k as u8;
 }
 
-// The ids of n columns in order by name; the entries past them are not to be read.
+// The ids of n columns in order by name, then zeros.
 pub fn order_of(names: &[u8], sizes: &[u8], n: usize) -> [u8; 128]
     requires { ⌜ NamesHeld (now names) (now sizes) n ⌝ }
-    ensures { λ r. ⌜ Listed (now (names .entry)) (now (sizes .entry)) r n ⌝ }
+    ensures { λ r. ⌜ r ≡ orderOf (now (names .entry)) (now (sizes .entry)) n ⌝ }
 {
     let mut order = [0u8; 128];
     for k in 0..n {

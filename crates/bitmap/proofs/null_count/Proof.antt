@@ -1,7 +1,7 @@
 -- The loop counts the nulls of the bits before chunk k, at most len of them. Assumes nothing.
 use borrow.Author.Needs.{needs}
 use mathlib.Core.Path.{_≡_, sym, ap, _∙_}
-use Prim.Native.Nat.{_+_, _-_, _*_, _<_, _≤_, min}
+use Prim.Native.Nat.{ℕ, _+_, _-_, _*_, _<_, _≤_, min}
 use native.Mathlib.Omega.{arith}
 use Rattle.bitmap.specs.Bits.{nullsOf}
 use Rattle.bitmap.proofs.Counts.{nulls-none, nulls-le, chunk-fits, chunk-turn}
@@ -20,7 +20,7 @@ empty-count-requires c κs = search needs
 loop-holds : tie.Need-loop-holds Inv-loop μ-loop
 loop-holds c =
     let a = c .before .before .args in
-    (omega arith, c .empty-count .ensures ∙ sym (ap (nullsOf (a .words .now) (64 * a .word + a .bit)) none ∙ nulls-none (a .words .now) (64 * a .word + a .bit)))
+    (omega arith, ap (λ r. r .nulls) (c .empty-count .ensures) ∙ sym (ap (nullsOf (a .words .now) (64 * a .word + a .bit)) none ∙ nulls-none (a .words .now) (64 * a .word + a .bit)))
   where
     none : min 0 (c .before .before .args .len) ≡ 0
     none = omega arith
@@ -61,7 +61,7 @@ loop-again c =
     let l = c .before .before .before .before .loop in
     let h : 64 * l .k < a .len = omega arith in (
       omega arith,
-      c .counted .ensures
+      ap (λ r. r .nulls) (c .counted .ensures)
           ∙ chunk-turn (a .words .now) (64 * a .word + a .bit) (a .len) (l .k) (l .c .nulls) (c .before .before .chunk .result) (c .before .span .result)
           h (l .inv .1) (c .before .before .chunk .ensures) (c .before .span .ensures),
     )
@@ -70,7 +70,7 @@ returns : tie.Need-returns Inv-loop μ-loop
 returns c =
     let a = c .before .before .before .before .args in
     let e : min (64 * c .before .loop .k) (a .len) ≡ a .len = omega arith in
-    c .before .loop .inv .1 ∙ ap (nullsOf (a .words .now) (64 * a .word + a .bit)) e
+    ap (λ (n : ℕ). record { nulls = n }) (c .before .loop .inv .1 ∙ ap (nullsOf (a .words .now) (64 * a .word + a .bit)) e)
 
 pub null-count-spec : {M : Type 1} → statement M
 null-count-spec =

@@ -52,10 +52,10 @@ mul-masks : tie.Need-mul-masks Inv-loop μ-loop
 mul-masks c = omega (arith, index c .0)
 
 array-read-masks : tie.Need-array-read-masks Inv-loop μ-loop
-array-read-masks c = index c .0
+array-read-masks c = omega (arith, index c .0)
 
 array-write-masks : tie.Need-array-write-masks Inv-loop μ-loop
-array-write-masks c = index c .0
+array-write-masks c = omega (arith, index c .0)
 
 add-j : tie.Need-add-j Inv-loop μ-loop
 add-j c = omega arith

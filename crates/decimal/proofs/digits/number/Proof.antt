@@ -1,6 +1,6 @@
 use native.Mathlib.Omega.{arith}
 use mathlib.Core.Path.{_≡_, refl}
-use Prim.Native.Nat.{_+_, _*_, _-_, _≤_, _<_}
+use Prim.Native.Nat.{_+_, _*_, _-_, _≤_}
 use lib.ListN.{length, drop}
 use Rattle.decimal.specs.Digits.{numberOf}
 use Rattle.decimal.proofs.DigitLaws.{room, no-room, turn-other, turn-above, turn-below, turn-digit, turn-end}

@@ -3,13 +3,13 @@ use mathlib.Core.Path.{_≡_, refl}
 use Prim.Native.Nat.{_+_, _-_, _≤_}
 use native.Mathlib.Numerals.{add-one}
 use lib.ListN.{length, drop}
-use Rattle.decimal.specs.Floats.{before}
+use Rattle.decimal.specs.Floats.{beforePoint}
 use Rattle.decimal.proofs.FloatLaws.{point-here, point-later, point-end}
 use Rattle.decimal.proofs.float.point_place.Statement.{statement}
 use Rattle.decimal.proofs.float.point_place.Tie as tie
 
 abbrev Inv-loop : tie.InvT-loop
-Inv-loop text i₀ i-end i = (i-end ≡ length text) × (i ≤ length text) × (length (before text) ≡ i + length (before (drop i text)))
+Inv-loop text i₀ i-end i = (i-end ≡ length text) × (i ≤ length text) × (length (beforePoint text) ≡ i + length (beforePoint (drop i text)))
 
 abbrev μ-loop : tie.MeasureT-loop
 μ-loop text i₀ i-end i = length text - i

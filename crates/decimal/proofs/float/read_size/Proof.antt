@@ -1,5 +1,5 @@
 use native.Mathlib.Omega.{arith}
-use mathlib.Core.Path.{_∙_, sym}
+use mathlib.Core.Path.{_∙_}
 use lib.ListN.{length-take}
 use Rattle.decimal.proofs.FloatLaws.{before-le, size-whole, size-parts}
 use borrow.Author.Needs.{needs}

@@ -1,4 +1,4 @@
-use mathlib.Core.Path.{sym, _∙_}
+use mathlib.Core.Path.{_∙_}
 use borrow.Author.Tests.{not-true, not-false}
 use Rattle.decimal.proofs.IntegerLaws.{hex-long, hex-none, hex-other, hex-digits}
 use borrow.Author.Needs.{needs}

@@ -1,4 +1,4 @@
-use mathlib.Core.Path.{sym, _∙_}
+use mathlib.Core.Path.{_∙_}
 use Rattle.decimal.proofs.IntegerLaws.{integer-empty, integer-minus, integer-plus, integer-plain}
 use borrow.Author.Needs.{needs}
 use Rattle.decimal.proofs.integer.read_integer.Statement.{statement}

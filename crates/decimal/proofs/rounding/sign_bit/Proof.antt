@@ -1,4 +1,3 @@
-use Rattle.decimal.specs.Floats.{signWeight}
 use borrow.Author.Needs.{needs}
 use Rattle.decimal.proofs.rounding.sign_bit.Statement.{statement}
 use Rattle.decimal.proofs.rounding.sign_bit.Tie as tie

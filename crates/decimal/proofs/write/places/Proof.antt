@@ -1,7 +1,7 @@
 use native.Mathlib.Omega.{arith}
 use mathlib.Core.Path.{_≡_, refl}
 use Prim.Native.Nat.{_/_, _-_, _^_, _<_, _≤_}
-use Rattle.decimal.proofs.TextLaws.{places-more, places-end, places-few, more-fewest}
+use Rattle.decimal.proofs.NumeralLaws.{places-more, places-end, places-few, more-fewest, numeral-places}
 use Rattle.decimal.proofs.write.places.Statement.{statement}
 use Rattle.decimal.proofs.write.places.Tie as tie
 
@@ -24,7 +24,7 @@ loop-again : tie.Need-loop-again Inv-loop μ-loop
 loop-again c = let h = places-more (c .before .before .args .n) (c .before .loop .k) (c .before .loop .rest) (c .before .loop .inv .1) (c .loop-test .taken) in (omega arith, h .1, λ g. more-fewest (c .before .before .args .n) (c .before .loop .k) (h .0))
 
 returns : tie.Need-returns Inv-loop μ-loop
-returns c = record { some = c .before .loop .inv .0; holds = places-end (c .before .before .args .n) (c .before .loop .k) (c .before .loop .rest) (c .before .loop .inv .1) (c .loop-test .left); fewest = c .before .loop .inv .2 }
+returns c = numeral-places (c .before .before .args .n) (c .before .loop .k) (c .before .before .fits .n .fits) (c .before .loop .inv .0) (places-end (c .before .before .args .n) (c .before .loop .k) (c .before .loop .rest) (c .before .loop .inv .1) (c .loop-test .left)) (c .before .loop .inv .2)
 
 pub places-spec : {M : Type 1} → statement M
 places-spec = tie.close (tie.spec Inv-loop μ-loop loop-holds add-k loop-less loop-again returns)

@@ -1,9 +1,9 @@
 use native.Mathlib.Omega.{arith}
 use mathlib.Core.Path.{_≡_, refl, sym, _∙_}
-use Prim.Native.Nat.{_+_, _≤_}
+use Prim.Native.Nat.{_≤_}
 use native.Mathlib.Nat.{mod-lt}
 use lib.ListN.{length, length-set}
-use Rattle.decimal.proofs.TextLaws.{Whole, turn-left, left-none}
+use Rattle.decimal.proofs.TextLaws.{Whole, turn-left, left-none, put-digits}
 use Rattle.decimal.proofs.write.spell.Statement.{statement}
 use Rattle.decimal.proofs.write.spell.Tie as tie
 
@@ -44,7 +44,7 @@ same-length : tie.Need-same-length Inv-loop μ-loop
 same-length c = c .before .loop .inv .0
 
 returns : tie.Need-returns Inv-loop μ-loop
-returns c = sym (c .before .loop .inv .2 ∙ left-none (c .before .before .before .args .base) (c .before .before .before .args .at) (c .before .loop .left) (c .before .loop .rest) (c .before .loop .out) (c .loop-test .left))
+returns c = put-digits (c .before .before .before .args .base) (c .before .before .before .args .at) (c .before .before .before .args .count) (c .before .before .before .args .n) _ (c .before .loop .out) (sym (c .before .loop .inv .2 ∙ left-none (c .before .before .before .args .base) (c .before .before .before .args .at) (c .before .loop .left) (c .before .loop .rest) (c .before .loop .out) (c .loop-test .left)))
 
 pub spell-spec : {M : Type 1} → statement M
 spell-spec =

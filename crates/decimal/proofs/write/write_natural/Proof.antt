@@ -1,4 +1,7 @@
-use Rattle.decimal.proofs.TextLaws.{natural-text}
+use mathlib.Core.Path.{refl}
+use mathlib.Core.List.{[]}
+use Rattle.decimal.specs.Text.{naturalText}
+use Rattle.decimal.proofs.TextLaws.{output-after}
 use borrow.Author.Needs.{needs}
 use Rattle.decimal.proofs.write.write_natural.Statement.{statement}
 use Rattle.decimal.proofs.write.write_natural.Tie as tie
@@ -10,7 +13,7 @@ same-length : tie.Need-same-length
 same-length c = search needs
 
 returns : tie.Need-returns
-returns c = natural-text (c .before .before .before .before .before .args .n) _ _ (c .before .before .write-from .result) (c .before .before .write-from .ensures)
+returns c = output-after [] (naturalText (c .before .before .before .before .before .args .n)) _ (c .before .before .before .before .before .args .out .now) _ (c .before .before .write-from .result) refl (c .before .before .write-from .ensures .0) (c .before .before .write-from .ensures .1)
 
 pub write-natural-spec : {M : Type 1} → statement M
 write-natural-spec = tie.close (tie.spec write-from-requires same-length returns)

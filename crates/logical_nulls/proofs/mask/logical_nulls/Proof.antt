@@ -1,14 +1,39 @@
-use mathlib.Core.Path.{_≡_, sym, ap, _∙_}
+use mathlib.Core.Path.{_≡_, refl, sym, ap, _∙_}
 use Prim.Native.Nat.{ℕ}
 use native.Mathlib.Omega.{arith}
-use lib.ListN.{length, length-map}
 use Rattle.union_array.specs.Buffers.{Buffers, buffersOf, onlyMasks}
+use Rattle.union_array.specs.Questions.{checked}
+use Rattle.null_route.specs.Setting.{settingNumber, settingTold, settingOf}
 use Rattle.null_route.specs.Route.{routeOf}
+use Rattle.null_route.proofs.Settings.{setting-refused, setting-taken}
 use Rattle.logical_nulls.specs.Mask.{maskedBy}
-use Rattle.logical_nulls.proofs.Calls.{setting-refused, setting-taken, too-few, enough, mask-unchecked, mask-12, mask-13, mask-taken, mask-absent, masked-same, route-is, full-le, fields-ok, counted-ok, mask-ready}
+use Rattle.logical_nulls.proofs.Calls.{too-few, enough, mask-unchecked, mask-12, mask-13, mask-taken, mask-absent, masked-same, route-same, fields-ok, counted-ok, mask-ready}
 use borrow.Author.Needs.{needs}
 use Rattle.logical_nulls.proofs.mask.logical_nulls.Statement.{statement}
 use Rattle.logical_nulls.proofs.mask.logical_nulls.Tie as tie
+
+-- the lent memory
+abbrev lent : tie.Start → Buffers
+lent st = let a = st .args in buffersOf (a .type-ids .now) (a .offsets .now) (a .values .now) (a .masks .now) (a .names .now)
+
+-- the questions 1 to 8 were answered yes
+accepted : (c : tie.Else1) → let st = c .before .before .before .before .before .before in checked (st .args .array) (lent st) ≡ 0
+accepted c = sym (c .before .check .ensures) ∙ c .if1 .left
+
+-- and 12: the number is a setting, whose cost it is
+is-setting : (c : tie.After-made) → settingNumber (settingOf (c .before .before .before .before .before .before .before .before .before .args .cost)) ≡ 0
+is-setting c = setting-taken _ _ (ap settingTold (sym (c .made .given .1)) ∙ c .before .before .new .ensures) .0
+
+its-cost : (c : tie.After-cost) → c .cost .result ≡ c .before .before .before .before .before .before .before .before .before .before .before .before .before .before .args .cost
+its-cost c = c .cost .ensures ∙ setting-taken _ _ (ap settingTold (sym (c .before .before .before .before .before .made .given .1)) ∙ c .before .before .before .before .before .before .before .new .ensures) .1
+
+-- the route
+its-route : (c : tie.After-route-for) → let st = c .before .before .before .before .before .before .before .before .before .before .before .before .before .before .before in
+    c .route-for .result ≡ routeOf (st .args .array) (lent st) (st .args .cost)
+its-route c =
+    let st = c .before .before .before .before .before .before .before .before .before .before .before .before .before .before .before in
+    c .route-for .ensures (st .args .array) (onlyMasks (st .args .masks .now)) refl (c .before .before .fields-of .ensures)
+    ∙ route-same (st .args .array) (lent st) (c .before .cost .result) ∙ ap (routeOf (st .args .array) (lent st)) (its-cost (c .before))
 
 check-requires : tie.Need-check-requires
 check-requires c κs = search needs
@@ -19,9 +44,7 @@ refused-requires c κs = search needs
 returns : tie.Need-returns
 returns c =
     let st = c .before .before .before .before .before .before .before in
-    let a = st .args in
-    let m : Buffers = buffersOf (a .type-ids .now) (a .offsets .now) (a .values .now) (a .masks .now) (a .names .now) in
-    mask-unchecked (a .array) m (a .out .now) (a .cost) (c .before .before .check .result) _ (c .before .before .check .ensures) (c .before .if1 .taken) (c .refused .ensures)
+    mask-unchecked (st .args .array) (lent st) (st .args .out .now) (st .args .cost) (c .before .before .check .result) _ (c .before .before .check .ensures) (c .before .if1 .taken) (c .refused .ensures)
 
 new-requires : tie.Need-new-requires
 new-requires c κs = search needs
@@ -38,18 +61,13 @@ refused-requires-2 c κs = search needs
 returns-2 : tie.Need-returns-2
 returns-2 c =
     let st = c .before .before .before .before .before .before .before .before .before .before in
-    let a = st .args in
-    let m : Buffers = buffersOf (a .type-ids .now) (a .offsets .now) (a .values .now) (a .masks .now) (a .names .now) in
-    let k = sym (c .before .before .before .before .before .check .ensures) ∙ c .before .before .before .before .if1 .left in
-    mask-12 (a .array) m (a .out .now) (a .cost) _ k (setting-refused (a .cost) (sym (c .before .before .before .new .ensures) ∙ c .before .enum-told .given .1)) (c .refused2 .ensures)
+    mask-12 (st .args .array) (lent st) (st .args .out .now) (st .args .cost) (accepted (c .before .before .before .before)) _
+    (setting-refused (st .args .cost) (ap settingTold (sym (c .before .enum-told .given .1)) ∙ c .before .before .before .new .ensures)) (c .refused2 .ensures)
 
 words-for-requires : tie.Need-words-for-requires
 words-for-requires c κs =
     let st = c .before .before .before .before .before .before .before .before .before .before in
-    let a = st .args in
-    let m : Buffers = buffersOf (a .type-ids .now) (a .offsets .now) (a .values .now) (a .masks .now) (a .names .now) in
-    let k = sym (c .before .before .before .before .before .check .ensures) ∙ c .before .before .before .before .if1 .left in
-    omega (arith, counted-ok (a .array) m k)
+    omega (arith, counted-ok (st .args .array) (lent st) (accepted (c .before .before .before .before)))
 
 refused-requires-3 : tie.Need-refused-requires-3
 refused-requires-3 c κs = search needs
@@ -57,77 +75,54 @@ refused-requires-3 c κs = search needs
 returns-3 : tie.Need-returns-3
 returns-3 c =
     let st = c .before .before .before .before .before .before .before .before .before .before .before .before .before in
-    let a = st .args in
-    let m : Buffers = buffersOf (a .type-ids .now) (a .offsets .now) (a .values .now) (a .masks .now) (a .names .now) in
-    let k = sym (c .before .before .before .before .before .before .before .before .check .ensures) ∙ c .before .before .before .before .before .before .before .if1 .left in
-    let p = setting-taken (a .cost) _ (sym (c .before .before .before .before .before .before .new .ensures) ∙ c .before .before .before .before .made .given .1) in
     let w = c .before .before .words-for in
-    mask-13 (a .array) m (a .out .now) (a .cost) _ k (p .0) (too-few (a .array) m (a .out .now) (w .result) (w .ensures) (c .before .if2 .taken)) (c .refused3 .ensures)
+    mask-13 (st .args .array) (lent st) (st .args .out .now) (st .args .cost) (accepted (c .before .before .before .before .before .before .before)) _ (is-setting (c .before .before .before .before))
+    (too-few (st .args .array) (lent st) (st .args .out .now) (w .result) (w .ensures) (c .before .if2 .taken)) (c .refused3 .ensures)
 
 fields-of-requires : tie.Need-fields-of-requires
 fields-of-requires c κs =
     let st = c .before .before .before .before .before .before .before .before .before .before .before .before in
-    let a = st .args in
-    let m : Buffers = buffersOf (a .type-ids .now) (a .offsets .now) (a .values .now) (a .masks .now) (a .names .now) in
-    let k = sym (c .before .before .before .before .before .before .before .check .ensures) ∙ c .before .before .before .before .before .before .if1 .left in
-    fields-ok (a .array) m k
+    fields-ok (st .args .array) (lent st) (accepted (c .before .before .before .before .before .before))
+
+cost-requires : tie.Need-cost-requires
+cost-requires c κs = search needs
 
 route-for-requires : tie.Need-route-for-requires
-route-for-requires c κs =
-    let st = c .before .before .before .before .before .before .before .before .before .before .before .before .before in
-    let a = st .args in
-    let m : Buffers = buffersOf (a .type-ids .now) (a .offsets .now) (a .values .now) (a .masks .now) (a .names .now) in
-    full-le (a .array) (onlyMasks (a .masks .now)) (c .fields-of .result) (c .fields-of .ensures)
+route-for-requires c κs = search needs
 
-refused-requires-4 : tie.Need-refused-requires-4
-refused-requires-4 c κs = search needs
+absent-requires : tie.Need-absent-requires
+absent-requires c κs = search needs
 
 returns-4 : tie.Need-returns-4
 returns-4 c =
-    let st = c .before .before .before .before .before .before .before .before .before .before .before .before .before .before .before .before in
-    let a = st .args in
-    let m : Buffers = buffersOf (a .type-ids .now) (a .offsets .now) (a .values .now) (a .masks .now) (a .names .now) in
-    let full : length (a .array .columns) ≡ 128 = sym (length-map (a .array .columns) _) ∙ st .good .0 .1 .1 .0 .1 .0 .1 in
-    let k = sym (c .before .before .before .before .before .before .before .before .before .before .before .check .ensures) ∙ c .before .before .before .before .before .before .before .before .before .before .if1 .left in
-    let p = setting-taken (a .cost) _ (sym (c .before .before .before .before .before .before .before .before .before .new .ensures) ∙ c .before .before .before .before .before .before .before .made .given .1) in
-    let few = fields-ok (a .array) m k .0 in
-    let r = c .before .before .route-for .ensures ∙ route-is (a .array) m _ (omega (arith, few)) (c .before .before .before .fields-of .result) (c .before .before .before .fields-of .ensures) ∙ ap (routeOf (a .array) m) (p .1) in
-    let w = c .before .before .before .before .before .words-for in
-    mask-absent (a .array) m (a .out .now) (a .cost) _ (sym r ∙ c .before .if3 .taken) (c .refused4 .ensures)
-    ∙ mask-taken (a .array) m (a .out .now) (a .cost) k (p .0) (enough (a .array) m (a .out .now) (w .result) (w .ensures) (c .before .before .before .before .if2 .left))
+    let st = c .before .before .before .before .before .before .before .before .before .before .before .before .before .before .before .before .before in
+    let w = c .before .before .before .before .before .before .words-for in
+    mask-absent (st .args .array) (lent st) (st .args .out .now) (st .args .cost) _ (sym (its-route (c .before .before)) ∙ c .before .if3 .taken) (c .absent .ensures)
+    ∙ mask-taken (st .args .array) (lent st) (st .args .out .now) (st .args .cost) (accepted (c .before .before .before .before .before .before .before .before .before .before .before))
+    (is-setting (c .before .before .before .before .before .before .before .before)) (enough (st .args .array) (lent st) (st .args .out .now) (w .result) (w .ensures) (c .before .before .before .before .before .if2 .left))
 
 run-route-requires : tie.Need-run-route-requires
 run-route-requires c κs =
-    let st = c .before .before .before .before .before .before .before .before .before .before .before .before .before .before .before .before in
+    let st = c .before .before .before .before .before .before .before .before .before .before .before .before .before .before .before .before .before in
     let a = st .args in
-    let m : Buffers = buffersOf (a .type-ids .now) (a .offsets .now) (a .values .now) (a .masks .now) (a .names .now) in
-    let full : length (a .array .columns) ≡ 128 = sym (length-map (a .array .columns) _) ∙ st .good .0 .1 .1 .0 .1 .0 .1 in
-    let k = sym (c .before .before .before .before .before .before .before .before .before .before .before .check .ensures) ∙ c .before .before .before .before .before .before .before .before .before .before .if1 .left in
-    let p = setting-taken (a .cost) _ (sym (c .before .before .before .before .before .before .before .before .before .new .ensures) ∙ c .before .before .before .before .before .before .before .made .given .1) in
-    let few = fields-ok (a .array) m k .0 in
-    let r = c .before .before .route-for .ensures ∙ route-is (a .array) m _ (omega (arith, few)) (c .before .before .before .fields-of .result) (c .before .before .before .fields-of .ensures) ∙ ap (routeOf (a .array) m) (p .1) in
-    let w = c .before .before .before .before .before .words-for in
-    mask-ready (a .array) (c .before .before .before .fields-of .result) (a .type-ids .now) (a .offsets .now) (a .values .now) (a .masks .now) (a .names .now) (a .out .now) (a .cost)
-    (c .before .before .route-for .result) (w .result) k (c .before .before .before .fields-of .ensures) (w .ensures) (c .before .before .before .before .if2 .left) r (c .before .if3 .left)
+    let w = c .before .before .before .before .before .before .words-for in
+    mask-ready (a .array) (c .before .before .before .before .fields-of .result) (a .type-ids .now) (a .offsets .now) (a .values .now) (a .masks .now) (a .names .now) (a .out .now) (a .cost)
+    (c .before .before .route-for .result) (w .result) (accepted (c .before .before .before .before .before .before .before .before .before .before .before)) (c .before .before .before .before .fields-of .ensures)
+    (w .ensures) (c .before .before .before .before .before .if2 .left) (its-route (c .before .before)) (c .before .if3 .left)
 
 same-length : tie.Need-same-length
 same-length c = search needs
 
 returns-5 : tie.Need-returns-5
 returns-5 c =
-    let st = c .before .before .before .before .before .before .before .before .before .before .before .before .before .before .before .before .before .before .before in
+    let st = c .before .before .before .before .before .before .before .before .before .before .before .before .before .before .before .before .before .before .before .before in
     let a = st .args in
-    let m : Buffers = buffersOf (a .type-ids .now) (a .offsets .now) (a .values .now) (a .masks .now) (a .names .now) in
-    let full : length (a .array .columns) ≡ 128 = sym (length-map (a .array .columns) _) ∙ st .good .0 .1 .1 .0 .1 .0 .1 in
-    let k = sym (c .before .before .before .before .before .before .before .before .before .before .before .before .before .before .check .ensures) ∙ c .before .before .before .before .before .before .before .before .before .before .before .before .before .if1 .left in
-    let p = setting-taken (a .cost) _ (sym (c .before .before .before .before .before .before .before .before .before .before .before .before .new .ensures) ∙ c .before .before .before .before .before .before .before .before .before .before .made .given .1) in
-    let few = fields-ok (a .array) m k .0 in
-    let r = c .before .before .before .before .before .route-for .ensures ∙ route-is (a .array) m _ (omega (arith, few)) (c .before .before .before .before .before .before .fields-of .result) (c .before .before .before .before .before .before .fields-of .ensures) ∙ ap (routeOf (a .array) m) (p .1) in
-    let w = c .before .before .before .before .before .before .before .before .words-for in
+    let w = c .before .before .before .before .before .before .before .before .before .words-for in
     c .before .before .run-route .ensures
     ∙ masked-same (a .array) (a .type-ids .now) (a .offsets .now) (a .values .now) (a .names .now) (a .masks .now) (c .before .before .before .before .before .route-for .result) (a .out .now)
-    ∙ ap (λ (n : ℕ). maskedBy (a .array) m n (a .out .now)) r
-    ∙ mask-taken (a .array) m (a .out .now) (a .cost) k (p .0) (enough (a .array) m (a .out .now) (w .result) (w .ensures) (c .before .before .before .before .before .before .before .if2 .left))
+    ∙ ap (λ (n : ℕ). maskedBy (a .array) (lent st) n (a .out .now)) (its-route (c .before .before .before .before .before))
+    ∙ mask-taken (a .array) (lent st) (a .out .now) (a .cost) (accepted (c .before .before .before .before .before .before .before .before .before .before .before .before .before .before))
+    (is-setting (c .before .before .before .before .before .before .before .before .before .before .before)) (enough (a .array) (lent st) (a .out .now) (w .result) (w .ensures) (c .before .before .before .before .before .before .before .before .if2 .left))
 
 pub logical-nulls-spec : {M : Type 1} → statement M
 logical-nulls-spec =
@@ -145,8 +140,9 @@ logical-nulls-spec =
     refused-requires-3
     returns-3
     fields-of-requires
+    cost-requires
     route-for-requires
-    refused-requires-4
+    absent-requires
     returns-4
     run-route-requires
     same-length

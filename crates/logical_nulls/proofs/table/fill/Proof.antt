@@ -11,7 +11,7 @@ use Rattle.null_route.specs.declared.Field.{Field}
 use Rattle.null_route.specs.Fields.{noField}
 use Rattle.logical_nulls.specs.Table.{tableOf}
 use Rattle.bitmap.proofs.Ids.{id-is, id-at, id-casts}
-use Rattle.logical_nulls.proofs.Entries.{table-none, table-yes, table-no}
+use Rattle.logical_nulls.proofs.Entries.{valid-plain, table-none, table-yes, table-no}
 use Rattle.logical_nulls.proofs.table.fill.Statement.{statement}
 use Rattle.logical_nulls.proofs.table.fill.Tie as tie
 
@@ -34,7 +34,8 @@ cast-at : tie.Need-cast-at Inv-loop μ-loop
 cast-at c =
     let st = c .before .before .before .before .before .before .before in
     let q = c .before .before .before .before .before .before .loop .q in
-    id-casts (getD (st .args .t1 .list) q noField .id) (c .struct-told .given .1 .1 .1 .0 .1) (st .pre .1 q (c .before .before .before .before .before .loop-test .taken))
+    let z = getD (st .args .t1 .list) q noField .id in
+    id-casts z (c .struct-told .given .1 .1 .1 .0 .1) (valid-plain z (st .pre .1 q (c .before .before .before .before .before .loop-test .taken)) .0)
 
 mul-table : tie.Need-mul-table Inv-loop μ-loop
 mul-table c = omega (arith, id-at (getD (c .before .before .before .before .before .before .before .args .t1 .list) (c .before .before .before .before .before .before .loop .q) noField .id) (c .struct-told .given .1 .1 .1 .0 .1))

@@ -4,24 +4,25 @@ use mathlib.Core.Path.{_≡_, sym, ap, _∙_}
 use mathlib.Core.Logic.{⊎-elim}
 use Prim.Native.Nat.{ℕ, _-_, _≤_, _<_}
 use native.Mathlib.Omega.{arith}
-use lib.ListN.{length, getD, take, length-set, length-map}
-use lib.Seq.{length-take-le}
-use Rattle.bitmap.proofs.Ids.{id-casts, id-index}
+use lib.IntN.{natAbs}
+use lib.ListN.{length, getD, take, length-map}
+use Rattle.bitmap.proofs.Ids.{id-is, id-casts, id-index}
 use Rattle.null_route.specs.Fields.{noField}
-use Rattle.logical_nulls.specs.Steps.{takenOf, Named}
-use Rattle.logical_nulls.proofs.TakenUp.{taken-none, taken-more, taken-same, named-more}
+use Rattle.logical_nulls.specs.Steps.{takenFieldsOf}
+use Rattle.logical_nulls.proofs.Entries.{valid-plain}
+use Rattle.logical_nulls.proofs.TakenUp.{taken-none, taken-more, taken-same}
 use Rattle.logical_nulls.proofs.taking.taken_fields.Statement.{statement}
 use Rattle.logical_nulls.proofs.taking.taken_fields.Tie as tie
 
 abbrev Inv-loop : tie.InvT-loop
 Inv-loop over fs list₀ ids₀ count₀ used q₀ list ids count q =
-    (q ≤ used) × (count ≤ q) × (length list ≡ 128) × (length ids ≡ 128) × (take count list ≡ takenOf over (take q (fs .list))) × Named list ids count
+    (q ≤ used) × (count ≤ q) × (record { list = list; ids = ids; count = count } ≡ takenFieldsOf over (take q (fs .list)))
 
 abbrev μ-loop : tie.MeasureT-loop
 μ-loop over fs list₀ ids₀ count₀ used q₀ list ids count q = used - q
 
 loop-holds : tie.Need-loop-holds Inv-loop μ-loop
-loop-holds c = (omega arith, omega arith, search needs, search needs, taken-none (c .args .over), λ i b. absurd (omega arith))
+loop-holds c = (omega arith, omega arith, taken-none (c .args .over) (c .args .t1 .list))
 
 mul-f : tie.Need-mul-f Inv-loop μ-loop
 mul-f c = omega (arith, c .before .before .pre .0)
@@ -44,7 +45,7 @@ cast-ids c =
     let q = c .before .before .before .before .before .before .loop .q in
     let z = getD (st .args .t1 .list) q noField .id in
     let h = c .struct-told .given .1 .1 .1 .0 .1 in
-    let n = st .pre .1 q (c .before .before .before .before .before .loop-test .taken) in
+    let n = valid-plain z (st .pre .1 q (c .before .before .before .before .before .loop-test .taken)) .0 in
     (id-casts z h n .0, omega (arith, id-index z h n .0))
 
 array-write-ids : tie.Need-array-write-ids Inv-loop μ-loop
@@ -64,31 +65,18 @@ loop-again c =
     let st = c .before .before .before .before .before in
     let a = st .args in
     let l = c .before .before .before .before .loop in
-    let t = c .before .before .before .loop-test .taken in
     let fl = a .t1 .list in
     let full : length fl ≡ 128 = sym (length-map fl _) ∙ st .good .0 .1 .1 .0 .1 .0 .1 in
     let h : l .q < length fl = omega (arith, st .pre .0) in
-    let hl : l .count < length (l .list) = omega (arith, st .pre .0) in
-    let hi : l .count < length (l .ids) = omega (arith, st .pre .0) in
     let e = c .before .takes .ensures in
     ⊎-elim
     (λ w. (
       omega arith,
       omega (arith, w .5),
-      rw (w .3) (length-set (l .list) (l .count) _ ∙ l .inv .2),
-      rw (w .4) (length-set (l .ids) (l .count) _ ∙ l .inv .3),
-      rw (w .3, w .5) (taken-more (a .over) fl (l .q) h (l .list) (l .count) hl (l .inv .4) (sym e ∙ w .0 .taken)),
       rw (w .3, w .4, w .5)
-          (named-more (l .list) (l .ids) (l .count) (getD fl (l .q) noField) _ hl hi (id-index (getD fl (l .q) noField .id) (w .2 .given .1 .1 .1 .0 .1) (st .pre .1 (l .q) t)) (l .inv .5)),
+          (taken-more (a .over) fl (l .q) h _ (l .inv .2) _ (omega (arith, st .pre .0)) (ap natAbs (id-is (getD fl (l .q) noField .id) (w .2 .given .1 .1 .1 .0 .1))) (sym e ∙ w .0 .taken)),
     ))
-    (λ w. (
-      omega arith,
-      omega (arith, w .3),
-      rw (w .1) (l .inv .2),
-      rw (w .2) (l .inv .3),
-      rw (w .1, w .3) (taken-same (a .over) fl (l .q) h (l .list) (l .count) (l .inv .4) (sym e ∙ w .0 .left)),
-      rw (w .1, w .2, w .3) (l .inv .5),
-    ))
+    (λ w. (omega arith, omega (arith, w .3), rw (w .1, w .2, w .3) (taken-same (a .over) fl (l .q) h _ (l .inv .2) (sym e ∙ w .0 .left))))
     (c .if1 .came)
 
 returns : tie.Need-returns Inv-loop μ-loop
@@ -96,13 +84,7 @@ returns c =
     let l = c .before .loop in
     let st = c .before .before in
     let e : l .q ≡ st .args .t1 .count = omega arith in
-    let taken = l .inv .4 ∙ ap (λ (n : ℕ). takenOf (st .args .over) (take n (st .args .t1 .list))) e in
-    record {
-      few = omega (arith, st .pre .0);
-      size = sym (length-take-le (l .count) (l .list) (omega (arith, st .pre .0))) ∙ ap length taken;
-      list = taken;
-      named = l .inv .5;
-    }
+    l .inv .2 ∙ ap (λ (n : ℕ). takenFieldsOf (st .args .over) (take n (st .args .t1 .list))) e
 
 pub taken-fields-spec : {M : Type 1} → statement M
 taken-fields-spec =

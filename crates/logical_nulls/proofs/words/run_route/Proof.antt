@@ -1,4 +1,4 @@
-use mathlib.Core.Path.{_≡_, sym, _∙_}
+use mathlib.Core.Path.{_≡_, sym, ap, _∙_}
 use native.Mathlib.Omega.{arith}
 use lib.ListN.{length, length-map}
 use Rattle.logical_nulls.proofs.Masks.{short, count-in, answered}
@@ -28,7 +28,7 @@ returns c =
     let st = c .before .before .before .before .before .before .before .before .before in
     let a = st .args in
     let full : length (a .array .columns) ≡ 128 = sym (length-map (a .array .columns) _) ∙ st .good .0 .1 .1 .0 .1 .0 .1 in
-    answered (a .array) (a .fs) (a .route) (a .ids .now) (a .offsets .now) (a .masks .now) (a .out .now) full (st .pre .0) _ _ _ (st .pre .1) (c .before .before .before .before .before .write-mask .ensures) (c .before .null-count .ensures) (c .answer-on .ensures)
+    answered (a .array) (a .fs) (a .route) (a .ids .now) (a .offsets .now) (a .masks .now) (a .out .now) full (st .pre .0) _ _ _ (st .pre .1) (c .before .before .before .before .before .write-mask .ensures) (ap (λ r. r .nulls) (c .before .null-count .ensures)) (c .answer-on .ensures)
 
 pub run-route-spec : {M : Type 1} → statement M
 run-route-spec =

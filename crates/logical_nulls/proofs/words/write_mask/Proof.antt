@@ -3,7 +3,7 @@ use mathlib.Core.Path.{_≡_, sym, _∙_}
 use mathlib.Core.Bool.{not}
 use lib.Dec.{eqb}
 use lib.ListN.{length, length-map}
-use Rattle.logical_nulls.proofs.Masks.{not-sparse, short, nulls-alone, stepped, steps-on, some-fields, few-fields, plain-ids, gathers-on, gathered}
+use Rattle.logical_nulls.proofs.Masks.{not-sparse, short, nulls-alone, stepped, steps-on, some-fields, few-fields, valid-fields, gathers-on, gathered}
 use borrow.Author.Needs.{needs}
 use Rattle.logical_nulls.proofs.words.write_mask.Statement.{statement}
 use Rattle.logical_nulls.proofs.words.write_mask.Tie as tie
@@ -52,7 +52,7 @@ fill-requires c κs =
     let st = c .before .before .before .before .before in
     let a = st .args in
     let full : length (a .array .columns) ≡ 128 = sym (length-map (a .array .columns) _) ∙ st .good .0 .1 .1 .0 .1 .0 .1 in
-    (few-fields (a .array) (a .fs) (a .route) (a .ids .now) (a .offsets .now) (a .masks .now) (a .out .now) full (st .pre), plain-ids (a .array) (a .fs) (a .route) (a .ids .now) (a .offsets .now) (a .masks .now) (a .out .now) full (st .pre))
+    (few-fields (a .array) (a .fs) (a .route) (a .ids .now) (a .offsets .now) (a .masks .now) (a .out .now) full (st .pre), valid-fields (a .array) (a .fs) (a .route) (a .ids .now) (a .offsets .now) (a .masks .now) (a .out .now) full (st .pre))
 
 write-gathered-requires : tie.Need-write-gathered-requires
 write-gathered-requires c κs =

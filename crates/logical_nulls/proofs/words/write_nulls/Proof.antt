@@ -1,5 +1,4 @@
 -- The loop has written the words before k. Assumes nothing.
-use borrow.Author.Needs.{needs}
 use mathlib.Core.Path.{_≡_, sym, ap, ap₂, _∙_}
 use mathlib.Core.Bool.{Bool, false}
 use mathlib.Core.List.{List}
@@ -17,7 +16,7 @@ abbrev Inv-loop : tie.InvT-loop
 Inv-loop len out₀ n k₀ out k = (k ≤ n) × (out ≡ retable k (wordOf len (λ i. false)) out₀)
 
 abbrev μ-loop : tie.MeasureT-loop
-μ-loop len out₀ n k₀ out k = n - k
+μ-loop len out₀ n k₀ out k = length out₀ - k
 
 words-for-requires : tie.Need-words-for-requires Inv-loop μ-loop
 words-for-requires c κs = c .before .pre .0
@@ -39,7 +38,11 @@ add-k : tie.Need-add-k Inv-loop μ-loop
 add-k c = omega (arith, c .before .before .before .before .pre .1, c .before .before .words-for .ensures)
 
 loop-less : tie.Need-loop-less Inv-loop μ-loop
-loop-less c = search needs
+loop-less c =
+    let a = c .before .before .before .before .args in
+    let l = c .before .loop in
+    let f : ℕ → Bool = λ i. false in
+    omega (arith, c .before .before .before .before .pre .1, c .before .before .words-for .ensures, ap length (l .inv .1), retable-length (l .k) (wordOf (a .len) f) (a .out .now) (omega (arith, c .before .before .before .before .pre .1, c .before .before .words-for .ensures)))
 
 loop-again : tie.Need-loop-again Inv-loop μ-loop
 loop-again c =

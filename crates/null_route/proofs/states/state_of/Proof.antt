@@ -13,7 +13,7 @@ null-count-requires c κs = search needs
 returns : tie.Need-returns
 returns c =
     let a = c .before .before .before .args in
-    state-none (onlyMasks (a .masks .now)) (a .c) (sym (c .before .null-count .ensures) ∙ c .if1 .taken)
+    state-none (onlyMasks (a .masks .now)) (a .c) (sym (ap (λ r. r .nulls) (c .before .null-count .ensures)) ∙ c .if1 .taken)
 
 cast-is-fully-null : tie.Need-cast-is-fully-null
 cast-is-fully-null c = search needs
@@ -24,14 +24,14 @@ is-fully-null-requires c κs = search needs
 returns-2 : tie.Need-returns-2
 returns-2 c =
     let a = c .before .before .before .before .before .before .args in
-    let e = c .before .before .before .before .null-count .ensures in
+    let e = ap (λ r. r .nulls) (c .before .before .before .before .null-count .ensures) in
     state-full (onlyMasks (a .masks .now)) (a .c) (λ z. c .before .before .before .if1 .left (e ∙ z))
     (ap (λ (n : ℕ). isFullyNull n (a .c .slots)) (sym e) ∙ sym (c .before .is-fully-null .ensures) ∙ c .if2 .taken)
 
 returns-3 : tie.Need-returns-3
 returns-3 c =
     let a = c .before .before .before .before .before .before .args in
-    let e = c .before .before .before .before .null-count .ensures in
+    let e = ap (λ r. r .nulls) (c .before .before .before .before .null-count .ensures) in
     state-some (onlyMasks (a .masks .now)) (a .c) (λ z. c .before .before .before .if1 .left (e ∙ z))
     (ap (λ (n : ℕ). isFullyNull n (a .c .slots)) (sym e) ∙ sym (c .before .is-fully-null .ensures) ∙ c .if2 .left)
 

@@ -1,5 +1,6 @@
 use native.Mathlib.Omega.{arith}
 use lib.ListN.{length-take}
+use Rattle.decimal.proofs.TextLaws.{natural-size}
 use borrow.Author.Needs.{needs}
 use Rattle.readings.proofs.print.right_size.Statement.{statement}
 use Rattle.readings.proofs.print.right_size.Tie as tie
@@ -11,10 +12,10 @@ write-natural-requires : tie.Need-write-natural-requires
 write-natural-requires c κs = search needs
 
 array-share-prefix-out : tie.Need-array-share-prefix-out
-array-share-prefix-out c = search needs
+array-share-prefix-out c = let l = natural-size _ _ _ _ (c .before .write-natural .ensures) in omega arith
 
 slice-aggregate-right : tie.Need-slice-aggregate-right
-slice-aggregate-right c = simp length-take (omega arith)
+slice-aggregate-right c = let l = natural-size _ _ _ _ (c .before .before .write-natural .ensures) in simp length-take (omega arith)
 
 right-requires : tie.Need-right-requires
 right-requires c κs = search needs

@@ -1,5 +1,5 @@
 use native.Mathlib.Omega.{arith}
-use Prim.Native.Nat.{_-_, _≤_}
+use Prim.Native.Nat.{_-_}
 use Rattle.readings.proofs.table.value_width.Statement.{statement}
 use Rattle.readings.proofs.table.value_width.Tie as tie
 

@@ -14,7 +14,7 @@ use Rattle.bitmap.specs.Lists.{every}
 use Rattle.bitmap.proofs.Tables.{every-more, every-no}
 use Rattle.union_array.specs.Types.{UnionArray}
 use Rattle.union_array.specs.Slots.{inUse, typeIdAt, offsetAt, childAt}
-use Rattle.union_array.specs.Questions.{within, withinChild}
+use Rattle.union_array.specs.Questions.{withinChild}
 use Rattle.union_array.specs.Pass.{entryOf}
 use Rattle.union_array.specs.Check.{onlySlots}
 use Rattle.union_array.proofs.Signed.{id-read}

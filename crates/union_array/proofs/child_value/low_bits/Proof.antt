@@ -1,7 +1,7 @@
 use mathlib.Core.Path.{ap, _∙_}
 use Prim.Native.Nat.{ℕ, _%_, _^_}
 use Rattle.union_array.specs.Types.{lowBits}
-use Rattle.union_array.proofs.Values.{width-le}
+use Rattle.union_array.proofs.KindLaws.{width-le}
 use borrow.Author.Needs.{needs}
 use Rattle.union_array.proofs.child_value.low_bits.Statement.{statement}
 use Rattle.union_array.proofs.child_value.low_bits.Tie as tie

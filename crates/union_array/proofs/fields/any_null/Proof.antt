@@ -41,9 +41,9 @@ returns c =
     let l = c .before .before .before .before .before in
     let s = c .before .before .before .before .before .before .before in
     let full : length (s .args .t1) ≡ 128 = s .good .0 .1 .0 .1 in
-    let n = c .before .before .null-count in
+    let n = ap (λ r. r .nulls) (c .before .before .null-count .ensures) in
     sym (ap not (all-fails (λ c. eqb (nullsIn c (onlyMasks (s .args .masks .now))) 0) (s .args .t1) (s .args .fields) (l .loop .j) (omega arith) (omega arith)
-    (ne-eqb _ 0 (λ z. c .if1 .taken (n .ensures ∙ z)))))
+    (ne-eqb _ 0 (λ z. c .if1 .taken (n ∙ z)))))
 
 add-j : tie.Need-add-j Inv-loop μ-loop
 add-j c = search needs
@@ -56,9 +56,9 @@ loop-again c =
     let l = c .before .before .before .before .before in
     let s = c .before .before .before .before .before .before .before in
     let full : length (s .args .t1) ≡ 128 = s .good .0 .1 .0 .1 in
-    let n = c .before .before .null-count in (
+    let n = ap (λ r. r .nulls) (c .before .before .null-count .ensures) in (
       search needs,
-      all-turn (λ c. eqb (nullsIn c (onlyMasks (s .args .masks .now))) 0) (s .args .t1) (l .loop .j) (omega arith) (l .loop .inv .1) (eq-eqb _ 0 (sym (n .ensures) ∙ c .if1 .left)),
+      all-turn (λ c. eqb (nullsIn c (onlyMasks (s .args .masks .now))) 0) (s .args .t1) (l .loop .j) (omega arith) (l .loop .inv .1) (eq-eqb _ 0 (sym n ∙ c .if1 .left)),
     )
 
 returns-2 : tie.Need-returns-2 Inv-loop μ-loop

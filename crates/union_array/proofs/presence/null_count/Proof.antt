@@ -1,5 +1,6 @@
 use borrow.Author.Needs.{needs}
-use mathlib.Core.Path.{_∙_}
+use mathlib.Core.Path.{ap, _∙_}
+use Prim.Native.Nat.{ℕ}
 use native.Mathlib.Omega.{arith}
 use Rattle.union_array.specs.Buffers.{onlyMasks, amountsOf}
 use Rattle.union_array.proofs.Accepted.{mask-part}
@@ -21,7 +22,8 @@ null-count-requires c κs =
 returns : tie.Need-returns
 returns c =
     let s = c .before .before .before .before .before in
-    c .null-count .ensures ∙ nulls-masked (s .args .c) (onlyMasks (s .args .masks .now)) (c .before .before .before .if1 .taken)
+    c .null-count .ensures
+    ∙ ap (λ (n : ℕ). record { nulls = n }) (nulls-masked (s .args .c) (onlyMasks (s .args .masks .now)) (c .before .before .before .if1 .taken))
 
 empty-count-requires : tie.Need-empty-count-requires
 empty-count-requires c κs = search needs
@@ -29,7 +31,7 @@ empty-count-requires c κs = search needs
 returns-2 : tie.Need-returns-2
 returns-2 c =
     let s = c .before .before .before in
-    c .empty-count .ensures ∙ nulls-free (s .args .c) (onlyMasks (s .args .masks .now)) (c .before .if1 .left)
+    c .empty-count .ensures ∙ ap (λ (n : ℕ). record { nulls = n }) (nulls-free (s .args .c) (onlyMasks (s .args .masks .now)) (c .before .if1 .left))
 
 pub null-count-spec : {M : Type 1} → statement M
 null-count-spec =

@@ -32,7 +32,7 @@ use denote.Steps.{only, opens, closes, owned, peeks, heard, nothing}
 use denote.Struct.Steps.{spelt}
 use denote.Struct.Laws as LL
 use denote.Enum.Laws as EL
-use denote.Triple.Entry.{Args, Vals, onEntry}
+use denote.Triple.Entry.{onEntry}
 use denote.Triple.Spec.{Meets, tripleOf}
 use denote.Triple.Statement.{Contract, Triple}
 use denote.Triple.Call.{calls-at}

@@ -6,7 +6,7 @@ use native.Mathlib.Omega.{arith}
 use borrow.Author.Needs.{needs}
 use lib.ListN.{length, length-map, length-set}
 use Rattle.bitmap.proofs.Tables.{retable-none}
-use Rattle.union_builder.specs.Writing.{valueOf}
+use Rattle.union_builder.specs.Append.{someIf}
 use Rattle.union_builder.specs.Planning.{withColumns, rowAfter, Sound}
 use Rattle.union_builder.proofs.Growing.{stored, row-turn, row-column, own-after, own-short, own-few}
 use Rattle.union_builder.proofs.Appending.{answer-no, answer-yes}
@@ -60,7 +60,7 @@ returns : tie.Need-returns Inv-loop μ-loop
 returns c =
     let p = c .before .before .before .before .before .before .before .before .before .before .append-step in
     let a = c .before .before .before .before .before .before .before .before .before .before .before .before .before .before .before .before .before .before .before .before .before .args in
-    answer-no (a .t1) (p .result) (valueOf (a .present) 0) _ _ (p .ensures .1) (c .if1 .taken)
+    answer-no (a .t1) (p .result) (someIf (a .present) 0) _ _ (p .ensures .1) (c .if1 .taken)
 
 add-b : tie.Need-add-b Inv-loop μ-loop
 add-b c = search (needs, sound (c .before) .len)
@@ -156,7 +156,7 @@ returns-2 c =
     let p = e .before .before .before .before .before .before .before .before .before .before .append-step in
     let own = n .before .own-column in
     let past = le-antisymm (l .loop .inv .0) (c .loop-test .left) in
-    answer-yes (a .t1) (p .result) (valueOf (a .present) 0) _ _ (l .loop .b) (p .ensures .1) (e .if1 .left)
+    answer-yes (a .t1) (p .result) (someIf (a .present) 0) _ _ (l .loop .b) (p .ensures .1) (e .if1 .left)
     ((rw past at (l .loop .inv .1))
     ∙ own-after (a .t1) (p .result) (a .present) (full (e .before .before .before .before .before .before .before .before .before .before .before .before .before .before .before .before .before .before .before .before .before)) (s .few) (s .used) (own .result) (n .if-sparse .result) (own .ensures) (n .if-sparse .ensures))
 

@@ -1,8 +1,9 @@
 -- A refusal changes nothing; an accepted plan can be written. Assumes nothing.
-use mathlib.Core.Path.{sym, _∙_}
+use mathlib.Core.Path.{_≡_, sym, _∙_}
+use native.Mathlib.Omega.{arith}
 use borrow.Author.Needs.{needs}
 use Rattle.union_array.specs.Buffers.{buffersOf, amountsOf}
-use Rattle.union_builder.specs.Writing.{valueOf, Writable}
+use Rattle.union_builder.specs.Append.{someIf}
 use Rattle.union_builder.proofs.Appending.{checked-searchable, append-no, append-writable, append-sound, append-yes}
 use Rattle.union_builder.proofs.append.append_step.Statement.{statement}
 use Rattle.union_builder.proofs.append.append_step.Tie as tie
@@ -21,7 +22,8 @@ returns c =
     let a = c .before .before .before .before .before .before .before .before .args in
     let m = buffersOf (a .type-ids .now) (a .offsets .now) (a .values .now) (a .masks .now) (a .names .now) in
     let p = c .before .before .plan in
-    (λ e. absurd (c .if1 .taken e), append-no (a .b) m (a .name .now) (a .kind) (a .checked) (c .before .before .before .before .before .before .before .before .pre) (p .result) (p .ensures) (valueOf (a .present) 0) (valueOf (a .present) (a .word)) (c .if1 .taken))
+    let no : p .result .refusal ≡ 0 → ⊥ = λ e. omega arith in
+    (λ e. absurd (no e), append-no (a .b) m (a .name .now) (a .kind) (a .checked) (c .before .before .before .before .before .before .before .before .pre) (p .result) (p .ensures) (someIf (a .present) 0) (someIf (a .present) (a .word)) no)
 
 head-of-requires : tie.Need-head-of-requires
 head-of-requires c κs = search needs

@@ -2,7 +2,7 @@
 use mathlib.Core.Path.{_≡_, sym, ap, _∙_}
 use borrow.Author.Needs.{needs}
 use lib.ListN.{length, length-map}
-use Rattle.union_builder.proofs.Growing.{stored, settled-sparse, settled-dense, short-stored}
+use Rattle.union_builder.proofs.Growing.{stored, grown-as-sparse, grown-as-dense, short-stored}
 use Rattle.union_builder.proofs.columns.grow.Statement.{statement}
 use Rattle.union_builder.proofs.columns.grow.Tie as tie
 
@@ -42,7 +42,7 @@ returns c =
     let b = c .before .before .before .before .args .t1 in
     let s = c .before .before .before .before .pre in
     let full : length (b .columns) ≡ 128 = sym (length-map (b .columns) _) ∙ c .before .before .before .before .good .0 .1 .1 .0 .1 .0 .1 in
-    c .grow-row .ensures ∙ settled-sparse b (c .before .before .before .before .args .p) (c .before .before .before .before .args .present) full (s .few) (s .used) (c .before .enum-told .given .1)
+    c .grow-row .ensures ∙ grown-as-sparse b (c .before .before .before .before .args .p) (c .before .before .before .before .args .present) full (s .few) (s .used) (c .before .enum-told .given .1)
 
 returns-2 : tie.Need-returns-2
 returns-2 c =
@@ -50,7 +50,7 @@ returns-2 c =
     let s = c .before .before .before .before .pre in
     let p = c .before .before .before .before .args .p in
     let full : length (b .columns) ≡ 128 = sym (length-map (b .columns) _) ∙ c .before .before .before .before .good .0 .1 .1 .0 .1 .0 .1 in
-    ap (stored b p) (c .grown-column .ensures) ∙ settled-dense b p (c .before .before .before .before .args .present) full (s .few) (s .used) (c .before .enum-told2 .given .1)
+    ap (stored b p) (c .grown-column .ensures) ∙ grown-as-dense b p (c .before .before .before .before .args .present) full (s .few) (s .used) (c .before .enum-told2 .given .1)
 
 pub grow-spec : {M : Type 1} → statement M
 grow-spec =

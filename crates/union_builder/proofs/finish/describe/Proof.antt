@@ -1,5 +1,5 @@
 use mathlib.Core.Path.{_∙_}
-use Rattle.union_builder.specs.Describe.{onlyNames}
+use Rattle.union_builder.specs.Finding.{onlyNames}
 use Rattle.union_builder.proofs.Describing.{held, fillable, describe-is}
 use borrow.Author.Needs.{needs}
 use Rattle.union_builder.proofs.finish.describe.Statement.{statement}

@@ -1,6 +1,5 @@
 -- The number given, 17, or where the name was found. Assumes nothing.
 use mathlib.Core.Path.{_∙_}
-use native.Mathlib.Omega.{arith}
 use borrow.Author.Needs.{needs}
 use Rattle.union_builder.proofs.Asking.{denied, granted}
 use Rattle.union_builder.proofs.Plans.{name-short, plan-no, plan-17, plan-rest}

@@ -9,16 +9,15 @@ use borrow.Author.Needs.{needs}
 use lib.Dec.{eqb}
 use lib.ListN.{length}
 use Rattle.bitmap.specs.Bits.{wordsFor}
-use Rattle.union_builder.specs.Append.{Put, put, puts, putValue, putBit, row}
-use Rattle.union_builder.specs.Writing.{valueOf}
+use Rattle.union_builder.specs.Append.{someIf, Put, put, puts, putValue, putBit, row}
 use Rattle.union_builder.proofs.Putting.{puts-turn, value-here, room-upto, room-kept}
 use Rattle.union_builder.proofs.slots.put_row.Statement.{statement}
 use Rattle.union_builder.proofs.slots.put_row.Tie as tie
 
 abbrev Inv-loop : tie.InvT-loop
 Inv-loop values₀ masks₀ capacity n slot id word present k₀ values masks k =
-    (k ≤ n) × (values ≡ puts putValue capacity values₀ (row k slot id (valueOf present word)))
-    × (masks ≡ puts putBit (64 * wordsFor capacity) masks₀ (row k slot id (valueOf present word)))
+    (k ≤ n) × (values ≡ puts putValue capacity values₀ (row k slot id (someIf present word)))
+    × (masks ≡ puts putBit (64 * wordsFor capacity) masks₀ (row k slot id (someIf present word)))
     × (length values ≡ length values₀) × (length masks ≡ length masks₀)
 
 abbrev μ-loop : tie.MeasureT-loop
@@ -45,10 +44,10 @@ loop-again c =
     let a = c .before .before .before .before .before .before .before .before .before .before .before .before .args in
     let p = c .before .before .before .before .put-slot in
     let r = c .before .before .before .before .before .in-column in
-    let v = valueOf (a .present) (a .word) in
+    let v = someIf (a .present) (a .word) in
     let f : ℕ → Put = λ k. put k (a .slot) (cond (eqb (a .id) k) v none) in
-    let e : valueOf (r .result) (a .word) ≡ cond (eqb (a .id) (l .k)) v none =
-    ap (λ t. valueOf t (a .word)) (r .ensures) ∙ value-here (eqb (a .id) (l .k)) (a .present) (a .word) in (
+    let e : someIf (r .result) (a .word) ≡ cond (eqb (a .id) (l .k)) v none =
+    ap (λ t. someIf t (a .word)) (r .ensures) ∙ value-here (eqb (a .id) (l .k)) (a .present) (a .word) in (
       omega arith,
       puts-turn putValue (a .capacity) (a .values .now) (l .values) _ (l .k) f _ (l .inv .1) (p .ensures .0) e,
       puts-turn putBit (64 * wordsFor (a .capacity)) (a .masks .now) (l .masks) _ (l .k) f _ (l .inv .2) (p .ensures .1) e,

@@ -5,8 +5,8 @@ use native.Mathlib.Omega.{arith}
 use borrow.Author.Needs.{needs}
 use Rattle.bitmap.specs.Bits.{wordsFor}
 use Rattle.union_array.specs.declared.Layout.{Layout}
-use Rattle.union_builder.specs.Append.{puts, putValue, putBit}
-use Rattle.union_builder.specs.Writing.{valueOf, putsFor}
+use Rattle.union_builder.specs.Append.{someIf, puts, putValue, putBit}
+use Rattle.union_builder.specs.Writing.{putsFor}
 use Rattle.union_builder.proofs.Putting.{room-upto}
 use Rattle.union_builder.proofs.store.put_slots.Statement.{statement}
 use Rattle.union_builder.proofs.store.put_slots.Tie as tie
@@ -35,7 +35,7 @@ same-length-2 c = search needs
 returns : tie.Need-returns
 returns c =
     let a = c .before .before .before .before .before .before .before .before .before .before .before .args in
-    let v = valueOf (a .present) (a .word) in
+    let v = someIf (a .present) (a .word) in
     let q = c .before .before .before .before .put-sparse in
     let e = sym (c .before .before .before .before .before .before .before .enum-told .given .1) in (
       q .ensures .0 ∙ ap (λ (l : Layout). puts putValue (a .capacity) (a .values .now) (putsFor l (a .p) (a .len) v)) e,
@@ -51,7 +51,7 @@ same-length-4 c = search needs
 returns-2 : tie.Need-returns-2
 returns-2 c =
     let a = c .before .before .before .before .before .before .before .before .before .before .before .before .before .args in
-    let v = valueOf (a .present) (a .word) in
+    let v = someIf (a .present) (a .word) in
     let q = c .before .before .before .before .put-slot in
     let e = sym (c .before .before .before .before .before .before .before .before .before .enum-told2 .given .1) in (
       q .ensures .0 ∙ ap (λ (l : Layout). puts putValue (a .capacity) (a .values .now) (putsFor l (a .p) (a .len) v)) e,

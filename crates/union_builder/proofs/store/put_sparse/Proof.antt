@@ -5,8 +5,7 @@ use Prim.Native.Nat.{_*_}
 use native.Mathlib.Omega.{arith}
 use borrow.Author.Needs.{needs}
 use Rattle.bitmap.specs.Bits.{wordsFor}
-use Rattle.union_builder.specs.Append.{putValue, putBit, filled, row}
-use Rattle.union_builder.specs.Writing.{valueOf}
+use Rattle.union_builder.specs.Append.{someIf, putValue, putBit, filled, row}
 use Rattle.union_builder.proofs.Putting.{puts-two, room-upto, cond-le}
 use Rattle.union_builder.proofs.store.put_sparse.Statement.{statement}
 use Rattle.union_builder.proofs.store.put_sparse.Tie as tie
@@ -33,7 +32,7 @@ same-length-2 c = search needs
 returns : tie.Need-returns
 returns c =
     let a = c .before .before .before .before .before .before .before .before .before .before .before .before .before .before .before .before .before .args in
-    let v = valueOf (a .present) (a .word) in
+    let v = someIf (a .present) (a .word) in
     let n = c .before .before .before .before .before .before .before .before .before .before .before .before .blanks .ensures in
     let q = c .before .before .before .before .before .before .before .before .before .before .before .put-nulls in
     let r = c .before .before .before .before .put-row in

@@ -1,7 +1,7 @@
 -- Each slice by its own call. Assumes nothing.
 use borrow.Author.Needs.{needs}
 use Rattle.union_array.specs.Buffers.{buffersOf}
-use Rattle.union_builder.specs.Writing.{valueOf}
+use Rattle.union_builder.specs.Append.{someIf}
 use Rattle.union_builder.proofs.Stored.{all-stored}
 use Rattle.union_builder.proofs.store.store.Statement.{statement}
 use Rattle.union_builder.proofs.store.store.Tie as tie
@@ -44,7 +44,7 @@ returns c =
     let a = c .before .before .before .before .before .before .before .before .before .before .before .before .before .before .before .before .before .before .before .before .before .before .before .before .args in
     let m = buffersOf (a .type-ids .now) (a .offsets .now) (a .values .now) (a .masks .now) (a .names .now) in
     let q = c .before .before .before .before .put-slots in
-    all-stored (a .b) (a .p) (valueOf (a .present) (a .word)) m (a .name .now) _ _ _ _ _ (c .before .before .before .before .before .before .before .before .before .before .before .before .before .before .before .before .before .put-type-id .ensures) (c .before .before .before .before .before .before .before .before .before .before .before .before .before .put-offset .ensures) (c .before .before .before .before .before .before .before .before .before .put-new-name .ensures) (q .ensures .0) (q .ensures .1)
+    all-stored (a .b) (a .p) (someIf (a .present) (a .word)) m (a .name .now) _ _ _ _ _ (c .before .before .before .before .before .before .before .before .before .before .before .before .before .before .before .before .before .put-type-id .ensures) (c .before .before .before .before .before .before .before .before .before .before .before .before .before .put-offset .ensures) (c .before .before .before .before .before .before .before .before .before .put-new-name .ensures) (q .ensures .0) (q .ensures .1)
 
 pub store-spec : {M : Type 1} → statement M
 store-spec =

@@ -1,44 +1,37 @@
-use mathlib.Core.Path.{sym, _∙_}
-use borrow.Author.Tests.{not-true, not-false}
-use lib.ListN.{length}
-use Rattle.union_array.specs.Buffers.{buffersOf}
-use Rattle.union_ffi.specs.Appends.{readingsOf}
-use Rattle.union_ffi.proofs.Readings.{lengths-are, appends-bad, appends-length, appends-good}
+-- A builder whose numbers name no case is handed back; so is that of a refused run. Assumes nothing.
+use mathlib.Core.Path.{_≡_, sym, _∙_}
+use mathlib.Core.Bool.{true}
 use borrow.Author.Needs.{needs}
+use borrow.Author.Tests.{not-true, not-false}
+use Rattle.union_array.specs.Buffers.{Buffers, buffersOf}
+use Rattle.union_builder.specs.Appends.{Readings, readingsOf}
+use Rattle.union_ffi.specs.Builders.{isBuilder}
+use Rattle.union_ffi.proofs.Readings.{appends-bad, appends-refused, appends-accepted}
 use Rattle.union_ffi.proofs.appends.union_builder_appends.Statement.{statement}
 use Rattle.union_ffi.proofs.appends.union_builder_appends.Tie as tie
+
+abbrev readings : tie.Start → Readings
+readings s = let a = s .args in readingsOf (a .text .now) (a .starts .now) (a .sizes .now) (a .kinds .now) (a .present .now) (a .bits .now)
+
+abbrev lent : tie.Start → Buffers
+lent s = let a = s .args in buffersOf (a .type-ids .now) (a .offsets .now) (a .values .now) (a .masks .now) (a .names .now)
+
+is-builder-yes : (c : tie.Else1) → isBuilder (c .before .before .before .before .before .before .before .before .before .before .before .before .args .builder) ≡ true
+is-builder-yes c = sym (c .before .is-builder .ensures) ∙ not-false _ (c .if1 .left)
 
 is-builder-requires : tie.Need-is-builder-requires
 is-builder-requires c κs = search needs
 
 returns : tie.Need-returns
 returns c =
-    let p = c .before .before .before .before .before .before .before .before .before .before .before .before .args in
-    let m = buffersOf (p .type-ids .now) (p .offsets .now) (p .values .now) (p .masks .now) (p .names .now) in
-    let r = readingsOf (p .text .now) (p .starts .now) (p .sizes .now) (p .kinds .now) (p .present .now) (p .bits .now) in
-    appends-bad (p .builder) m r (p .refusals .now) (sym (c .before .is-builder .ensures) ∙ not-true _ (c .if1 .taken))
-
-lengths-match-requires : tie.Need-lengths-match-requires
-lengths-match-requires c κs = search needs
-
-returns-2 : tie.Need-returns-2
-returns-2 c =
-    let p = c .before .before .before .before .before .before .before .before .before .before .before .before .before .before .args in
-    let m = buffersOf (p .type-ids .now) (p .offsets .now) (p .values .now) (p .masks .now) (p .names .now) in
-    let r = readingsOf (p .text .now) (p .starts .now) (p .sizes .now) (p .kinds .now) (p .present .now) (p .bits .now) in
-    appends-length (p .builder) m r (p .refusals .now) (sym (c .before .before .before .is-builder .ensures) ∙ not-false _ (c .before .before .if1 .left)) (lengths-are r (length (p .refusals .now)) ∙ sym (c .before .lengths-match .ensures) ∙ not-true _ (c .if2 .taken))
+    let s = c .before .before .before .before .before .before .before .before .before .before .before .before in
+    appends-bad (s .args .builder) (lent s) (readings s) (s .args .refusals .now) (sym (c .before .is-builder .ensures) ∙ not-true _ (c .if1 .taken))
 
 builder-from-requires : tie.Need-builder-from-requires
 builder-from-requires c κs = search needs
 
-append-run-requires : tie.Need-append-run-requires
-append-run-requires c κs =
-    let p = c .before .before .before .before .before .before .before .before .before .before .before .before .before .before .before .before .before .before .before .before .before .args in
-    let r = readingsOf (p .text .now) (p .starts .now) (p .sizes .now) (p .kinds .now) (p .present .now) (p .bits .now) in
-    lengths-are r (length (p .refusals .now)) ∙ sym (c .before .before .before .before .before .before .before .before .lengths-match .ensures) ∙ not-false _ (c .before .before .before .before .before .before .before .if2 .left)
-
-builder-into-requires : tie.Need-builder-into-requires
-builder-into-requires c κs = search needs
+appends-requires : tie.Need-appends-requires
+appends-requires c κs = search needs
 
 same-length : tie.Need-same-length
 same-length c = search needs
@@ -58,15 +51,41 @@ same-length-5 c = search needs
 same-length-6 : tie.Need-same-length-6
 same-length-6 c = search needs
 
+returns-2 : tie.Need-returns-2
+returns-2 c =
+    let o = c .before .before .before .before .before .before .before .before .before .before .before .before .appends in
+    let u = c .before .before .before .before .before .before .before .before .before .before .before .before .before .before .before .before .before .before .before .builder-from in
+    let s = c .before .before .before .before .before .before .before .before .before .before .before .before .before .before .before .before .before .before .before .before .before .before .before .before .before .before .before .before .before .before .before .before in
+    appends-refused (s .args .builder) (lent s) (readings s) (s .args .refusals .now) (is-builder-yes (c .before .before .before .before .before .before .before .before .before .before .before .before .before .before .before .before .before .before .before .before)) (u .result) (u .ensures) (o .result) _ _ (o .ensures) (c .if2 .taken)
+
+builder-into-requires : tie.Need-builder-into-requires
+builder-into-requires c κs = search needs
+
+same-length-7 : tie.Need-same-length-7
+same-length-7 c = search needs
+
+same-length-8 : tie.Need-same-length-8
+same-length-8 c = search needs
+
+same-length-9 : tie.Need-same-length-9
+same-length-9 c = search needs
+
+same-length-10 : tie.Need-same-length-10
+same-length-10 c = search needs
+
+same-length-11 : tie.Need-same-length-11
+same-length-11 c = search needs
+
+same-length-12 : tie.Need-same-length-12
+same-length-12 c = search needs
+
 returns-3 : tie.Need-returns-3
 returns-3 c =
-    let p = c .before .before .before .before .before .before .before .before .before .before .before .before .before .before .before .before .before .before .before .before .before .before .before .before .before .before .before .before .before .before .before .before .before .args in
-    let m = buffersOf (p .type-ids .now) (p .offsets .now) (p .values .now) (p .masks .now) (p .names .now) in
-    let r = readingsOf (p .text .now) (p .starts .now) (p .sizes .now) (p .kinds .now) (p .present .now) (p .bits .now) in
-    let u = c .before .before .before .before .before .before .before .before .before .before .before .before .before .before .before .before .before .before .builder-from in
-    let o = c .before .before .before .before .before .before .before .before .before .before .before .append-run in
-    appends-good (p .builder) m r (p .refusals .now) (sym (c .before .before .before .before .before .before .before .before .before .before .before .before .before .before .before .before .before .before .before .before .before .before .is-builder .ensures) ∙ not-false _ (c .before .before .before .before .before .before .before .before .before .before .before .before .before .before .before .before .before .before .before .before .before .if1 .left)) (lengths-are r (length (p .refusals .now)) ∙ sym (c .before .before .before .before .before .before .before .before .before .before .before .before .before .before .before .before .before .before .before .before .lengths-match .ensures) ∙ not-false _ (c .before .before .before .before .before .before .before .before .before .before .before .before .before .before .before .before .before .before .before .if2 .left))
-    (u .result) (o .result) (u .ensures) _ _ (o .ensures) (c .builder-into .result) (c .builder-into .ensures)
+    let o = c .before .before .before .before .before .before .before .before .before .before .before .before .before .before .appends in
+    let u = c .before .before .before .before .before .before .before .before .before .before .before .before .before .before .before .before .before .before .before .before .before .builder-from in
+    let s = c .before .before .before .before .before .before .before .before .before .before .before .before .before .before .before .before .before .before .before .before .before .before .before .before .before .before .before .before .before .before .before .before .before .before in
+    appends-accepted (s .args .builder) (lent s) (readings s) (s .args .refusals .now) (is-builder-yes (c .before .before .before .before .before .before .before .before .before .before .before .before .before .before .before .before .before .before .before .before .before .before)) (u .result) (u .ensures) (o .result) _ _ (o .ensures) (c .before .before .if2 .left)
+    (c .builder-into .result) (c .builder-into .ensures)
 
 pub union-builder-appends-spec : {M : Type 1} → statement M
 union-builder-appends-spec =
@@ -74,15 +93,20 @@ union-builder-appends-spec =
     (tie.spec
     is-builder-requires
     returns
-    lengths-match-requires
-    returns-2
     builder-from-requires
-    append-run-requires
-    builder-into-requires
+    appends-requires
     same-length
     same-length-2
     same-length-3
     same-length-4
     same-length-5
     same-length-6
+    returns-2
+    builder-into-requires
+    same-length-7
+    same-length-8
+    same-length-9
+    same-length-10
+    same-length-11
+    same-length-12
     returns-3)

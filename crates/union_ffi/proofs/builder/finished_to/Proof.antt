@@ -1,6 +1,4 @@
-use mathlib.Core.Path.{ap, sym}
 use borrow.Author.Needs.{needs}
-use Rattle.union_ffi.specs.Builders.{CBuilder}
 use Rattle.union_ffi.proofs.Boundary.{finish-refused, finish-accepted}
 use Rattle.union_ffi.proofs.builder.finished_to.Statement.{statement}
 use Rattle.union_ffi.proofs.builder.finished_to.Tie as tie

@@ -4,13 +4,13 @@ use native.Mathlib.Omega.{arith}
 use borrow.Author.Needs.{needs}
 use lib.ListN.{length, length-map}
 use Rattle.union_ffi.specs.Arrays.{columnFrom}
-use Rattle.union_ffi.specs.Numbers.{inUse, firstBy}
+use Rattle.union_ffi.specs.Numbers.{entriesUsed, firstBy}
 use Rattle.union_ffi.proofs.Maps.{noCColumn, array-from-is, first-none, first-turn, first-done, in-use-most}
 use Rattle.union_ffi.proofs.convert.array_from.Statement.{statement}
 use Rattle.union_ffi.proofs.convert.array_from.Tie as tie
 
 abbrev Inv-loop : tie.InvT-loop
-Inv-loop a columns₀ n k₀ columns k = (k ≤ n) × (n ≤ 128) × (n ≡ inUse (a .fields)) × (length columns₀ ≡ 128) × (columns ≡ firstBy k columnFrom (a .columns) columns₀)
+Inv-loop a columns₀ n k₀ columns k = (k ≤ n) × (n ≤ 128) × (n ≡ entriesUsed (a .fields)) × (length columns₀ ≡ 128) × (columns ≡ firstBy k columnFrom (a .columns) columns₀)
 
 abbrev μ-loop : tie.MeasureT-loop
 μ-loop a columns₀ n k₀ columns k = n - k
@@ -28,11 +28,11 @@ loop-holds c =
     let e = c .in-use .ensures in
     (omega arith, rw e (in-use-most (a .fields)), e, refl, first-none columnFrom (a .columns) _)
 
-mul-c : tie.Need-mul-c Inv-loop μ-loop
-mul-c c = omega arith
+mul-e : tie.Need-mul-e Inv-loop μ-loop
+mul-e c = omega arith
 
-element-copy-out-c : tie.Need-element-copy-out-c Inv-loop μ-loop
-element-copy-out-c c = omega arith
+element-copy-out-e : tie.Need-element-copy-out-e Inv-loop μ-loop
+element-copy-out-e c = omega arith
 
 column-from-requires : tie.Need-column-from-requires Inv-loop μ-loop
 column-from-requires c κs = search needs
@@ -66,7 +66,7 @@ returns c =
     let l = c .before .before in
     let a = l .before .before .before .args .t1 in
     let i = l .loop .inv in
-    let all : l .loop .k ≡ inUse (a .fields) = omega arith in
+    let all : l .loop .k ≡ entriesUsed (a .fields) = omega arith in
     let e : l .loop .columns ≡ firstBy (a .fields) columnFrom (a .columns) _ = first-done columnFrom (a .fields) (l .loop .k) (a .columns) _ (l .loop .columns) (i .4) all (i .3) in
     let z = l .before .before .no-column in
     array-from-is a (z .result) (l .loop .columns) (c .layout-from .result) (z .ensures) e (c .layout-from .ensures)
@@ -80,8 +80,8 @@ array-from-spec =
     no-column-requires
     in-use-requires
     loop-holds
-    mul-c
-    element-copy-out-c
+    mul-e
+    element-copy-out-e
     column-from-requires
     mul-columns
     array-set-from-columns

@@ -5,13 +5,13 @@ use borrow.Author.Needs.{needs}
 use lib.ListN.{length, length-map}
 use Rattle.union_array.specs.Types.{noColumn}
 use Rattle.union_ffi.specs.Arrays.{columnTo}
-use Rattle.union_ffi.specs.Numbers.{inUse, firstBy}
+use Rattle.union_ffi.specs.Numbers.{entriesUsed, firstBy}
 use Rattle.union_ffi.proofs.Maps.{array-to-is, first-none, first-turn, first-done, in-use-most}
 use Rattle.union_ffi.proofs.convert.array_to.Statement.{statement}
 use Rattle.union_ffi.proofs.convert.array_to.Tie as tie
 
 abbrev Inv-loop : tie.InvT-loop
-Inv-loop a columns₀ n k₀ columns k = (k ≤ n) × (n ≤ 128) × (n ≡ inUse (a .fields)) × (length columns₀ ≡ 128) × (columns ≡ firstBy k columnTo (a .columns) columns₀)
+Inv-loop a columns₀ n k₀ columns k = (k ≤ n) × (n ≤ 128) × (n ≡ entriesUsed (a .fields)) × (length columns₀ ≡ 128) × (columns ≡ firstBy k columnTo (a .columns) columns₀)
 
 abbrev μ-loop : tie.MeasureT-loop
 μ-loop a columns₀ n k₀ columns k = n - k
@@ -32,11 +32,11 @@ loop-holds c =
     let e = c .in-use .ensures in
     (omega arith, rw e (in-use-most (a .fields)), e, refl, first-none columnTo (a .columns) _)
 
-mul-c : tie.Need-mul-c Inv-loop μ-loop
-mul-c c = omega arith
+mul-e : tie.Need-mul-e Inv-loop μ-loop
+mul-e c = omega arith
 
-element-copy-out-c : tie.Need-element-copy-out-c Inv-loop μ-loop
-element-copy-out-c c = omega arith
+element-copy-out-e : tie.Need-element-copy-out-e Inv-loop μ-loop
+element-copy-out-e c = omega arith
 
 column-to-requires-2 : tie.Need-column-to-requires-2 Inv-loop μ-loop
 column-to-requires-2 c κs = search needs
@@ -70,7 +70,7 @@ returns c =
     let l = c .before .before in
     let a = l .before .before .before .before .args .t1 in
     let i = l .loop .inv in
-    let all : l .loop .k ≡ inUse (a .fields) = omega arith in
+    let all : l .loop .k ≡ entriesUsed (a .fields) = omega arith in
     let e : l .loop .columns ≡ firstBy (a .fields) columnTo (a .columns) _ = first-done columnTo (a .fields) (l .loop .k) (a .columns) _ (l .loop .columns) (i .4) all (i .3) in
     let z = l .before .before .column-to in
     let n = l .before .before .before .no-column in
@@ -86,8 +86,8 @@ array-to-spec =
     column-to-requires
     in-use-requires
     loop-holds
-    mul-c
-    element-copy-out-c
+    mul-e
+    element-copy-out-e
     column-to-requires-2
     mul-columns
     array-set-from-columns

@@ -4,13 +4,13 @@ use native.Mathlib.Omega.{arith}
 use borrow.Author.Needs.{needs}
 use lib.ListN.{length, length-map}
 use Rattle.union_ffi.specs.Builders.{builderColumnFrom, builderFrom}
-use Rattle.union_ffi.specs.Numbers.{inUse, firstBy}
+use Rattle.union_ffi.specs.Numbers.{entriesUsed, firstBy}
 use Rattle.union_ffi.proofs.Maps.{noCBuilderColumn, first-none, first-turn, first-done, in-use-most}
 use Rattle.union_ffi.proofs.convert.builder_from.Statement.{statement}
 use Rattle.union_ffi.proofs.convert.builder_from.Tie as tie
 
 abbrev Inv-loop : tie.InvT-loop
-Inv-loop b columns₀ n k₀ columns k = (k ≤ n) × (n ≤ 128) × (n ≡ inUse (b .count)) × (length columns₀ ≡ 128) × (columns ≡ firstBy k builderColumnFrom (b .columns) columns₀)
+Inv-loop b columns₀ n k₀ columns k = (k ≤ n) × (n ≤ 128) × (n ≡ entriesUsed (b .count)) × (length columns₀ ≡ 128) × (columns ≡ firstBy k builderColumnFrom (b .columns) columns₀)
 
 abbrev μ-loop : tie.MeasureT-loop
 μ-loop b columns₀ n k₀ columns k = n - k
@@ -25,11 +25,11 @@ loop-holds c =
     let e = c .in-use .ensures in
     (omega arith, rw e (in-use-most (a .count)), e, refl, first-none builderColumnFrom (a .columns) _)
 
-mul-c : tie.Need-mul-c Inv-loop μ-loop
-mul-c c = omega arith
+mul-e : tie.Need-mul-e Inv-loop μ-loop
+mul-e c = omega arith
 
-element-copy-out-c : tie.Need-element-copy-out-c Inv-loop μ-loop
-element-copy-out-c c = omega arith
+element-copy-out-e : tie.Need-element-copy-out-e Inv-loop μ-loop
+element-copy-out-e c = omega arith
 
 builder-column-from-requires : tie.Need-builder-column-from-requires Inv-loop μ-loop
 builder-column-from-requires c κs = search needs
@@ -64,7 +64,7 @@ returns c =
     let l = c .before .before in
     let a = l .before .before .args .t1 in
     let i = l .loop .inv in
-    let all : l .loop .k ≡ inUse (a .count) = omega arith in
+    let all : l .loop .k ≡ entriesUsed (a .count) = omega arith in
     let e : l .loop .columns ≡ firstBy (a .count) builderColumnFrom (a .columns) _ = first-done builderColumnFrom (a .count) (l .loop .k) (a .columns) _ (l .loop .columns) (i .4) all (i .3) in
     rw (e, c .layout-from .ensures)
 
@@ -76,8 +76,8 @@ builder-from-spec =
     μ-loop
     in-use-requires
     loop-holds
-    mul-c
-    element-copy-out-c
+    mul-e
+    element-copy-out-e
     builder-column-from-requires
     mul-columns
     array-set-from-columns

@@ -1,17 +1,17 @@
-use mathlib.Core.Path.{_≡_, refl, sym, _∙_}
+use mathlib.Core.Path.{_≡_, sym, _∙_}
 use Prim.Native.Nat.{_-_, _≤_}
 use native.Mathlib.Omega.{arith}
 use borrow.Author.Needs.{needs}
 use lib.ListN.{length, length-map}
 use Rattle.union_builder.specs.Builder.{noBuilderColumn}
 use Rattle.union_ffi.specs.Builders.{builderColumnTo, builderInto}
-use Rattle.union_ffi.specs.Numbers.{inUse, firstBy}
+use Rattle.union_ffi.specs.Numbers.{entriesUsed, firstBy}
 use Rattle.union_ffi.proofs.Maps.{first-none, first-turn, first-done, in-use-most}
 use Rattle.union_ffi.proofs.convert.builder_into.Statement.{statement}
 use Rattle.union_ffi.proofs.convert.builder_into.Tie as tie
 
 abbrev Inv-loop : tie.InvT-loop
-Inv-loop b columns₀ n k₀ columns k = (k ≤ n) × (n ≤ 128) × (n ≡ inUse (b .count)) × (length columns₀ ≡ 128) × (columns ≡ firstBy k builderColumnTo (b .columns) columns₀)
+Inv-loop b columns₀ n k₀ columns k = (k ≤ n) × (n ≤ 128) × (n ≡ entriesUsed (b .count)) × (length columns₀ ≡ 128) × (columns ≡ firstBy k builderColumnTo (b .columns) columns₀)
 
 abbrev μ-loop : tie.MeasureT-loop
 μ-loop b columns₀ n k₀ columns k = n - k
@@ -66,7 +66,7 @@ returns c =
     let l = c .before .before in
     let a = l .before .before .before .args .t2 in
     let i = l .loop .inv in
-    let all : l .loop .k ≡ inUse (a .count) = omega arith in
+    let all : l .loop .k ≡ entriesUsed (a .count) = omega arith in
     let e : l .loop .columns ≡ firstBy (a .count) builderColumnTo (a .columns) _ = first-done builderColumnTo (a .count) (l .loop .k) (a .columns) _ (l .loop .columns) (i .4) all (i .3) in
     rw (e, c .layout-to .ensures)
 

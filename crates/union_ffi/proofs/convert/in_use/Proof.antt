@@ -1,5 +1,3 @@
-use mathlib.Core.Path.{ap}
-use mathlib.Core.Bool.{cond}
 use borrow.Author.Tests.{lt-ltb, le-ltb}
 use Rattle.union_ffi.proofs.convert.in_use.Statement.{statement}
 use Rattle.union_ffi.proofs.convert.in_use.Tie as tie

@@ -37,11 +37,11 @@ returns-2 c =
     let full : length (a .columns) ≡ 128 = sym (length-map (a .columns) _) ∙ s .good .0 .1 .1 .0 .1 .0 .1 in
     rw (lt-ltb (a .layout) 2 (omega arith)) (sym (each-tested ok noCColumn (a .columns) (a .fields) (l .loop .k) (l .loop .inv .1) (λ j h w. omega arith)))
 
-mul-c : tie.Need-mul-c Inv-loop μ-loop
-mul-c c = omega arith
+mul-e : tie.Need-mul-e Inv-loop μ-loop
+mul-e c = omega arith
 
-element-copy-out-c : tie.Need-element-copy-out-c Inv-loop μ-loop
-element-copy-out-c c = omega arith
+element-copy-out-e : tie.Need-element-copy-out-e Inv-loop μ-loop
+element-copy-out-e c = omega arith
 
 is-case-requires : tie.Need-is-case-requires Inv-loop μ-loop
 is-case-requires c κs = search needs
@@ -86,8 +86,8 @@ is-array-spec =
     returns
     loop-holds
     returns-2
-    mul-c
-    element-copy-out-c
+    mul-e
+    element-copy-out-e
     is-case-requires
     returns-3
     add-k

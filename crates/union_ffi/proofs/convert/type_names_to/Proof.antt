@@ -5,13 +5,13 @@ use borrow.Author.Needs.{needs}
 use lib.ListN.{length, length-map}
 use Rattle.union_array.specs.Lookup.{noName}
 use Rattle.union_ffi.specs.Arrays.{nameTo, typeNamesTo}
-use Rattle.union_ffi.specs.Numbers.{inUse, firstBy}
+use Rattle.union_ffi.specs.Numbers.{entriesUsed, firstBy}
 use Rattle.union_ffi.proofs.Maps.{first-none, first-turn, first-done, in-use-most}
 use Rattle.union_ffi.proofs.convert.type_names_to.Statement.{statement}
 use Rattle.union_ffi.proofs.convert.type_names_to.Tie as tie
 
 abbrev Inv-loop : tie.InvT-loop
-Inv-loop t names₀ count k₀ names k = (k ≤ count) × (count ≤ 128) × (count ≡ inUse (t .count)) × (length names₀ ≡ 128) × (names ≡ firstBy k nameTo (t .names) names₀)
+Inv-loop t names₀ count k₀ names k = (k ≤ count) × (count ≤ 128) × (count ≡ entriesUsed (t .count)) × (length names₀ ≡ 128) × (names ≡ firstBy k nameTo (t .names) names₀)
 
 abbrev μ-loop : tie.MeasureT-loop
 μ-loop t names₀ count k₀ names k = count - k
@@ -59,7 +59,7 @@ returns c =
     let l = c .before in
     let a = l .before .before .args .t1 in
     let i = l .loop .inv in
-    let all : l .loop .k ≡ inUse (a .count) = omega arith in
+    let all : l .loop .k ≡ entriesUsed (a .count) = omega arith in
     let e : l .loop .names ≡ firstBy (a .count) nameTo (a .names) _ = first-done nameTo (a .count) (l .loop .k) (a .names) _ (l .loop .names) (i .4) all (i .3) in
     rw (e)
 

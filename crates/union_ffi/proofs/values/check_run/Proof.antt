@@ -9,14 +9,14 @@ use Rattle.union_array.specs.Slots.{inUse, typeIdAt}
 use Rattle.union_array.specs.Pass.{entryOf}
 use Rattle.union_array.specs.Check.{onlySlots}
 use Rattle.union_array.proofs.Signed.{id-read}
-use Rattle.union_ffi.specs.Values.{firstNo, slotNo}
+use Rattle.union_ffi.specs.Values.{firstRefusal, slotNo}
 use Rattle.union_ffi.proofs.Places.{placeIn, place-at, column-none, column-some}
 use Rattle.union_ffi.proofs.Runs.{first-at, first-turn, slot-seven, slot-eight, slot-fits}
 use Rattle.union_ffi.proofs.values.check_run.Statement.{statement}
 use Rattle.union_ffi.proofs.values.check_run.Tie as tie
 
 abbrev Inv-loop : tie.InvT-loop
-Inv-loop first n type-ids offsets a places layout k₀ k = (k ≤ n) × (firstNo k (λ j. slotNo a (onlySlots type-ids offsets) (first + j)) ≡ 0)
+Inv-loop first n type-ids offsets a places layout k₀ k = (k ≤ n) × (firstRefusal k (λ j. slotNo a (onlySlots type-ids offsets) (first + j)) ≡ 0)
 
 abbrev μ-loop : tie.MeasureT-loop
 μ-loop first n type-ids offsets a places layout k₀ k = n - k

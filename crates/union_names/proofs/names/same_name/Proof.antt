@@ -43,7 +43,7 @@ loop-again : tie.Need-loop-again Inv-loop μ-loop
 loop-again c =
     let a = c .before .before .before .before .before .before .args in
     let l = c .before .before .before .before .loop in
-    (omega arith, above-more (λ j. getD (a .names .now) (a .at + j) 0 ≡ getD (a .name .now) j 0) (l .i) (a .size) (c .before .before .before .loop-test .taken) (l .inv .1) (c .if2 .left))
+    (omega arith, above-more (λ j. getD (a .names .now) (a .at + j) 0 ≡ getD (a .name .now) j 0) (l .i) (a .size) (omega arith) (l .inv .1) (c .if2 .left))
 
 returns-3 : tie.Need-returns-3 Inv-loop μ-loop
 returns-3 c =

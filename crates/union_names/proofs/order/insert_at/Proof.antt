@@ -1,7 +1,8 @@
-use mathlib.Core.Path.{_≡_, refl}
+use mathlib.Core.Path.{_≡_, refl, _∙_}
 use Prim.Native.Nat.{_+_, _≤_}
 use native.Mathlib.Omega.{arith}
 use lib.ListN.{length, take, drop, length-set}
+use lib.Seq.{drop-set-lt}
 use Rattle.union_names.proofs.Shifts.{shift-none, shift-below, shift-above, shift-done}
 use Rattle.union_names.proofs.order.insert_at.Statement.{statement}
 use Rattle.union_names.proofs.order.insert_at.Tie as tie
@@ -13,12 +14,13 @@ Inv-loop order₀ place k i₀ order i =
     × (length order ≡ length order₀)
     × (take i order ≡ take i order₀)
     × (drop (i + 1) (take (k + 1) order) ≡ drop i (take k order₀))
+    × (drop (k + 1) order ≡ drop (k + 1) order₀)
 
 abbrev μ-loop : tie.MeasureT-loop
 μ-loop order₀ place k i₀ order i = i
 
 loop-holds : tie.Need-loop-holds Inv-loop μ-loop
-loop-holds c = (omega arith, omega arith, refl, refl, shift-none (c .args .order .now) (c .args .k))
+loop-holds c = (omega arith, omega arith, refl, refl, shift-none (c .args .order .now) (c .args .k), refl)
 
 sub-order : tie.Need-sub-order Inv-loop μ-loop
 sub-order c = omega arith
@@ -48,6 +50,7 @@ loop-again c =
       simp length-set (v .2),
       shift-below o₀ o k (omega arith) (v .2) i (omega arith) (v .3),
       shift-above o₀ o k (omega arith) (v .2) i (omega arith) (omega arith) (v .3) (v .4),
+      drop-set-lt (k + 1) o i _ (omega arith) ∙ v .5,
     )
 
 cast-order : tie.Need-cast-order Inv-loop μ-loop
@@ -68,7 +71,7 @@ returns c =
     let p = l .before .args .place in
     let v = l .loop .inv in
     let at : l .loop .i ≡ p = omega arith in
-    (shift-done o₀ o k (omega arith) (v .2) p k (omega arith) (rw at at (v .3)) (rw at at (v .4)), simp length-set (v .2))
+    shift-done o₀ o k (omega arith) (v .2) p k (omega arith) (rw at at (v .3)) (rw at at (v .4)) (v .5)
 
 pub insert-at-spec : {M : Type 1} → statement M
 insert-at-spec =

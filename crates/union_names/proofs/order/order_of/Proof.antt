@@ -1,40 +1,51 @@
-use mathlib.Core.Path.{_≡_, refl, sym, _∙_}
+use mathlib.Core.Path.{_≡_, sym}
 use Prim.Native.Nat.{_-_, _≤_}
 use native.Mathlib.Omega.{arith}
 use lib.ListN.{length}
-use Rattle.union_names.specs.Order.{nameBy, goesBefore, Listed}
-use Rattle.union_names.proofs.Listing.{held-less, listed-none, listed-more, place-le}
+use Rattle.union_names.specs.Order.{nameBy, goesBefore, orderOf}
+use Rattle.union_names.specs.Listing.{Listed}
+use Rattle.union_names.proofs.Listing.{held-less, place-le, order-none, order-length, order-listed, order-more}
 use Rattle.union_names.proofs.order.order_of.Statement.{statement}
 use Rattle.union_names.proofs.order.order_of.Tie as tie
 
 abbrev Inv-loop : tie.InvT-loop
-Inv-loop names sizes n order₀ k₀ order k = (k ≤ n) × (length order ≡ 128) × Listed names sizes order k
+Inv-loop names sizes n order₀ k₀ order k = (k ≤ n) × (order ≡ orderOf names sizes k)
 
 abbrev μ-loop : tie.MeasureT-loop
 μ-loop names sizes n order₀ k₀ order k = n - k
 
+few : (l : tie.At-loop Inv-loop μ-loop) → l .loop .k ≤ 128
+few l = let s = l .before .before .before in omega (arith, s .pre .few)
+
+-- the array has 128 entries
+full : (l : tie.At-loop Inv-loop μ-loop) → length (l .loop .order) ≡ 128
+full l = let a = l .before .before .before .args in rw (l .loop .inv .1) (order-length (a .names .now) (a .sizes .now) (l .loop .k) (few l))
+
+listed : (l : tie.At-loop Inv-loop μ-loop) → let a = l .before .before .before .args in Listed (a .names .now) (a .sizes .now) (l .loop .order) (l .loop .k)
+listed l = let a = l .before .before .before .args in rw (l .loop .inv .1) (order-listed (a .names .now) (a .sizes .now) (l .loop .k) (few l))
+
 loop-holds : tie.Need-loop-holds Inv-loop μ-loop
-loop-holds c = (omega arith, refl, listed-none _ _ _)
+loop-holds c = (omega arith, order-none _ _)
 
 slice-aggregate-place-of : tie.Need-slice-aggregate-place-of Inv-loop μ-loop
-slice-aggregate-place-of c = sym (c .before .before .loop .inv .1)
+slice-aggregate-place-of c = sym (full (c .before .before))
 
 place-of-requires : tie.Need-place-of-requires Inv-loop μ-loop
 place-of-requires c κs =
     let l = c .before .before in
     let s = l .before .before .before in
-    (held-less (s .args .names .now) (s .args .sizes .now) (s .args .n) (l .loop .k) (s .pre) (omega arith), l .loop .inv .2)
+    (held-less (s .args .names .now) (s .args .sizes .now) (s .args .n) (l .loop .k) (s .pre) (omega arith), listed l)
 
 slice-aggregate-insert-at : tie.Need-slice-aggregate-insert-at Inv-loop μ-loop
-slice-aggregate-insert-at c = sym (c .before .before .before .before .loop .inv .1)
+slice-aggregate-insert-at c = sym (full (c .before .before .before .before))
 
 insert-at-requires : tie.Need-insert-at-requires Inv-loop μ-loop
 insert-at-requires c κs =
     let l = c .before .before .before .before in
     let s = l .before .before .before in
     let few = s .pre .few in
-    let le = place-le (s .args .names .now) (s .args .sizes .now) (l .loop .order) (goesBefore (nameBy (s .args .names .now) (s .args .sizes .now)) (l .loop .k)) (l .loop .k) (l .loop .inv .2 .room) in
-    (omega (arith, c .before .place-of .ensures), omega arith, omega arith)
+    let le = place-le (s .args .names .now) (s .args .sizes .now) (l .loop .order) (goesBefore (nameBy (s .args .names .now) (s .args .sizes .now)) (l .loop .k)) (l .loop .k) (listed l .room) in
+    (omega (arith, c .before .place-of .ensures), omega (arith, full l), omega arith)
 
 add-k : tie.Need-add-k Inv-loop μ-loop
 add-k c = omega arith
@@ -50,9 +61,8 @@ loop-again c =
     let put = c .before .insert-at in
     let found = c .before .before .before .place-of in (
       omega arith,
-      put .ensures .1 ∙ l .loop .inv .1,
-      listed-more (s .args .names .now) (s .args .sizes .now) (l .loop .order) (put .last .0) (l .loop .k) (found .result) (l .loop .inv .2)
-          (omega arith) (put .ensures .1) (found .ensures) (put .ensures .0),
+      order-more (s .args .names .now) (s .args .sizes .now) (l .loop .order) (put .last .0) (l .loop .k) (found .result) (l .loop .inv .1)
+          (omega arith) (found .ensures) (put .ensures),
     )
 
 returns : tie.Need-returns Inv-loop μ-loop
@@ -60,7 +70,7 @@ returns c =
     let l = c .before in
     let s = l .before .before .before in
     let all : l .loop .k ≡ s .args .n = omega arith in
-    rw all at (l .loop .inv .2)
+    rw all at (l .loop .inv .1)
 
 pub order-of-spec : {M : Type 1} → statement M
 order-of-spec =

@@ -3,7 +3,8 @@ use Prim.Native.Nat.{_+_, _-_, _≤_}
 use native.Mathlib.Omega.{arith}
 use lib.ListN.{take, drop}
 use borrow.Author.Tests.{not-true, not-false}
-use Rattle.union_names.specs.Order.{nameBy, leading, goesBefore}
+use Rattle.union_names.specs.Order.{nameBy, goesBefore}
+use Rattle.union_names.specs.Listing.{leading}
 use Rattle.union_names.proofs.Listing.{place-on, place-found, place-last, listed-id}
 use Rattle.union_names.proofs.order.place_of.Statement.{statement}
 use Rattle.union_names.proofs.order.place_of.Tie as tie

@@ -17,7 +17,7 @@ abbrev μ-loop : tie.MeasureT-loop
 μ-loop name e₀ i₀ i-end e i = length name - i
 
 returns : tie.Need-returns Inv-loop μ-loop
-returns c = too-long _ (c .if1 .taken)
+returns c = too-long _ (omega arith)
 
 loop-holds : tie.Need-loop-holds Inv-loop μ-loop
 loop-holds c = (search needs, omega arith, omega arith, begun _)

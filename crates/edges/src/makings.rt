@@ -1,0 +1,143 @@
+// Makings at the limits of slots and columns, and calls of a builder that are lent too little.
+use crate::first;
+use crate::print;
+use crate::read;
+use union_builder::Made;
+use union_builder::UnionBuilder;
+
+// The slots and the columns of each making; one of 1024 slots is by `new_dense` or `new_sparse`.
+const SLOTS: [usize; 10] = [0, 1, 1, 1, 1, 65536, 65537, 1024, 1024, 1024];
+
+const COLUMNS: [usize; 10] = [1, 0, 1, 128, 129, 1, 1, 0, 1, 2];
+
+fn dense_making(
+    slots: usize,
+    columns: usize,
+    ids: &[i8],
+    offsets: &[i32],
+    values: &[u64],
+    masks: &[u64],
+    names: &[u8],
+) -> Made {
+    if slots == 1024 {
+        return UnionBuilder::new_dense(columns, ids, offsets, values, masks, names);
+    }
+    UnionBuilder::with_capacity_dense(slots, columns, ids, offsets, values, masks, names)
+}
+
+fn sparse_making(
+    slots: usize,
+    columns: usize,
+    ids: &[i8],
+    offsets: &[i32],
+    values: &[u64],
+    masks: &[u64],
+    names: &[u8],
+) -> Made {
+    if slots == 1024 {
+        return UnionBuilder::new_sparse(columns, ids, offsets, values, masks, names);
+    }
+    UnionBuilder::with_capacity_sparse(slots, columns, ids, offsets, values, masks, names)
+}
+
+pub fn making(
+    dense: bool,
+    slots: usize,
+    columns: usize,
+    ids: &[i8],
+    offsets: &[i32],
+    values: &[u64],
+    masks: &[u64],
+    names: &[u8],
+) -> Made {
+    if dense {
+        return dense_making(slots, columns, ids, offsets, values, masks, names);
+    }
+    sparse_making(slots, columns, ids, offsets, values, masks, names)
+}
+
+// A making's number, and the builder that it gives.
+fn told(slots: usize, columns: usize, m: Made) {
+    let b = m.builder;
+    print::count(b" making of", slots);
+    print::size(columns);
+    print::small(b":", m.refusal);
+    read::state(b);
+}
+
+// The length n, or one less if the kind of memory is the one that is short.
+fn less(n: usize, kind: usize, short: usize) -> usize {
+    if kind == short && 0 < n {
+        return n - 1;
+    }
+    n
+}
+
+// The numbers of a making of 64 slots and 2 columns, and of that builder's `finish_cloned` and `finish`.
+fn numbers(
+    dense: bool,
+    b: UnionBuilder,
+    ids: &[i8],
+    offsets: &[i32],
+    values: &[u64],
+    masks: &[u64],
+    names: &[u8],
+) {
+    let m = making(dense, 64, 2, ids, offsets, values, masks, names);
+    print::small(b": making", m.refusal);
+    let c = b.finish_cloned(ids, offsets, values, masks, names);
+    print::small(b", finish_cloned", c.refusal);
+    let f = b.finish(ids, offsets, values, masks, names);
+    print::answer(b", finish", f.refusal);
+}
+
+// One element too few lent of type ids (0), offsets (1), values (2), masks (3) or names (4); of none (5).
+fn short(
+    dense: bool,
+    of: usize,
+    ids: &[i8],
+    offsets: &[i32],
+    values: &[u64],
+    masks: &[u64],
+    names: &[u8],
+) {
+    let m = making(dense, 64, 2, ids, offsets, values, masks, names);
+    let i = first::ids(ids, less(64, 0, of));
+    let o = first::offsets(offsets, less(64, 1, of));
+    let v = first::words(values, less(128, 2, of));
+    let w = first::words(masks, less(2, 3, of));
+    let n = first::bytes(names, less(64, 4, of));
+    print::count(b" short of", of);
+    numbers(dense, m.builder, i, o, v, w, n);
+}
+
+fn limits(dense: bool, ids: &[i8], offsets: &[i32], values: &[u64], masks: &[u64], names: &[u8]) {
+    for i in 0..10usize {
+        let slots = SLOTS[i];
+        let columns = COLUMNS[i];
+        told(
+            slots,
+            columns,
+            making(dense, slots, columns, ids, offsets, values, masks, names),
+        );
+    }
+}
+
+fn shorts(dense: bool, ids: &[i8], offsets: &[i32], values: &[u64], masks: &[u64], names: &[u8]) {
+    for of in 0..6usize {
+        short(dense, of, ids, offsets, values, masks, names);
+    }
+}
+
+pub fn lines(dense: bool) {
+    let ids = [0i8; 1024];
+    let offsets = [0i32; 1024];
+    let values = [0u64; 1024];
+    let masks = [0u64; 128];
+    let names = [0u8; 4096];
+    print::layout(dense);
+    print::text(b", makings");
+    print::end();
+    limits(dense, &ids, &offsets, &values, &masks, &names);
+    shorts(dense, &ids, &offsets, &values, &masks, &names);
+}

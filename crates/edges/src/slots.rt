@@ -1,0 +1,64 @@
+// An array's slots: what `type_id`, `value_offset` and `value` answer.
+use crate::kinds;
+use crate::print;
+use union_array::UnionArray;
+use union_array::Value;
+
+// The bits, or missing, and the name's length and its 32 bytes.
+fn bits(v: Value) {
+    let name = v.name;
+    if v.missing {
+        print::text(b", missing,");
+    } else {
+        print::text(b", bits");
+    }
+    print::word(v.bits);
+    print::small(b", name", v.size);
+    print::bytes(&name);
+    print::end();
+}
+
+fn told(v: Value) {
+    let kind = v.kind;
+    print::small(b", value", v.refusal);
+    print::text(b", id");
+    print::id(v.id);
+    print::small(b", kind", kinds::number(kind));
+    bits(v);
+}
+
+fn slot(
+    a: UnionArray,
+    i: usize,
+    ids: &[i8],
+    offsets: &[i32],
+    values: &[u64],
+    masks: &[u64],
+    names: &[u8],
+) {
+    let t = a.type_id(i, ids, offsets, values, masks, names);
+    let o = a.value_offset(i, ids, offsets, values, masks, names);
+    print::count(b"  slot", i);
+    print::small(b": type_id", t.refusal);
+    print::text(b", id");
+    print::id(t.id);
+    print::small(b", value_offset", o.refusal);
+    print::size(o.offset);
+    told(a.value(i, ids, offsets, values, masks, names));
+}
+
+// Slots 0 to n, of which n is past the end.
+pub fn lines(
+    a: UnionArray,
+    n: usize,
+    ids: &[i8],
+    offsets: &[i32],
+    values: &[u64],
+    masks: &[u64],
+    names: &[u8],
+) {
+    for i in 0..n {
+        slot(a, i, ids, offsets, values, masks, names);
+    }
+    slot(a, n, ids, offsets, values, masks, names);
+}

@@ -1,0 +1,85 @@
+// Whether slots tell the entries of a round.
+use crate::kinds;
+use crate::lists;
+use crate::lists::Entry;
+use union_array::UnionArray;
+use union_array::Value;
+
+// Whether a value's 32 name bytes are a name's, with zeros after it.
+fn is_name(a: [u8; 32], b: [u8; 33]) -> bool {
+    for j in 0..32usize {
+        if a[j] != b[j] {
+            return false;
+        }
+    }
+    true
+}
+
+fn is_size(a: u8, b: usize) -> bool {
+    a as usize == b
+}
+
+// Whether an answer is an entry of the column with an id.
+fn is_entry(v: Value, e: Entry, id: i8) -> bool {
+    let n = e.name;
+    let name = v.name;
+    let bytes = n.bytes;
+    let k = v.kind;
+    let l = e.kind;
+    let bits = if e.missing { 0 } else { e.bits };
+    if v.refusal != 0 {
+        return false;
+    }
+    if !bitmap::same_id(v.id, id) {
+        return false;
+    }
+    if kinds::number(k) != kinds::number(l) {
+        return false;
+    }
+    if !is_size(v.size, n.size) {
+        return false;
+    }
+    if v.missing != e.missing {
+        return false;
+    }
+    v.bits == bits && is_name(name, bytes)
+}
+
+// Whether a slot tells entry i of a round, whose columns a and b have ids 0 and 1.
+fn tells(
+    a: UnionArray,
+    slot: usize,
+    i: usize,
+    ids: &[i8],
+    offsets: &[i32],
+    values: &[u64],
+    masks: &[u64],
+    names: &[u8],
+) -> bool {
+    let v = a.value(slot, ids, offsets, values, masks, names);
+    let e = lists::turn(i);
+    if i % 2 == 0 {
+        return is_entry(v, e, 0);
+    }
+    is_entry(v, e, 1)
+}
+
+// How many of the entries from `first` to `end` - 1 the array's slots 0, 1, .. tell.
+pub fn count(
+    a: UnionArray,
+    first: usize,
+    end: usize,
+    ids: &[i8],
+    offsets: &[i32],
+    values: &[u64],
+    masks: &[u64],
+    names: &[u8],
+) -> usize {
+    let mut count: usize = 0;
+    for i in first..end {
+        if tells(a, i - first, i, ids, offsets, values, masks, names) {
+            count += 1;
+        }
+    }
+    count
+}

@@ -1,0 +1,57 @@
+use Prim.Native.Nat.{_≤_, _-_}
+use native.Mathlib.Omega.{arith}
+use Rattle.replay.proofs.whole.each_name.Statement.{statement}
+use Rattle.replay.proofs.whole.each_name.Tie as tie
+
+abbrev Inv-loop : tie.InvT-loop
+Inv-loop n names places k₀ k = k ≤ 128
+
+abbrev μ-loop : tie.MeasureT-loop
+μ-loop n names places k₀ k = 128 - k
+
+loop-holds : tie.Need-loop-holds Inv-loop μ-loop
+loop-holds c = omega arith
+
+mul-place : tie.Need-mul-place Inv-loop μ-loop
+mul-place c = omega arith
+
+array-copy-out-place : tie.Need-array-copy-out-place Inv-loop μ-loop
+array-copy-out-place c = omega arith
+
+cast-part : tie.Need-cast-part Inv-loop μ-loop
+cast-part c = omega arith
+
+part-requires : tie.Need-part-requires Inv-loop μ-loop
+part-requires c κs = tt
+
+name-requires : tie.Need-name-requires Inv-loop μ-loop
+name-requires c κs = tt
+
+add-k : tie.Need-add-k Inv-loop μ-loop
+add-k c = omega arith
+
+loop-less : tie.Need-loop-less Inv-loop μ-loop
+loop-less c = omega arith
+
+loop-again : tie.Need-loop-again Inv-loop μ-loop
+loop-again c = omega arith
+
+returns : tie.Need-returns Inv-loop μ-loop
+returns c = tt
+
+pub each-name-spec : {M : Type 1} → statement M
+each-name-spec =
+    tie.close
+    (tie.spec
+    Inv-loop
+    μ-loop
+    loop-holds
+    mul-place
+    array-copy-out-place
+    cast-part
+    part-requires
+    name-requires
+    add-k
+    loop-less
+    loop-again
+    returns)
