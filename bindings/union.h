@@ -12,10 +12,15 @@
  * UInt8, UInt16, UInt32, UInt64, Float32, Float64; a strategy is its route's number, 3 (Gather), 4 (SkipOne),
  * 5 (SkipWithoutNulls) or 6 (SkipFullyNull).
  *
- * A refusal is 0 when the call is accepted, else the number of the first question that is answered no; then every other
- * field of the answer is 0, lent memory is as it was, and a builder is handed back as it came. Besides the questions 1 to 20:
- *   128  a number names no case: in the layout, in a column in use, or in an argument
- *   129  of a run: a slice does not have the length that the run wants
+ * A refusal is 0 when the call is accepted, else the number of the first question that is answered no, 1 to 20; then every
+ * other field of the answer is 0, lent memory is as it was, and a builder is handed back as it came. Two numbers stand beside
+ * those of the questions:
+ *   128  a number names no kind, layout, flag or strategy: in the layout, in a column in use, or in an argument. It is asked
+ *        before the first question. In a run of appends it is also the number of a reading whose name lies outside `text`.
+ *   129  a slice of a run does not have the length that the run wants.
+ * A run of appends has a number of its own, in its answer, and one for each of its readings, in `refusals`.
+ * union_builder_len asks nothing and has no number.
+ * docs/REFUSALS.md has every number, its question, and which call asks it when.
  */
 #ifndef UNION_H
 #define UNION_H
@@ -176,7 +181,6 @@ typedef struct {
 typedef struct {
     union_builder builder;
     size_t len;
-    uint8_t refusal;
 } union_length;
 
 typedef struct {
@@ -255,15 +259,16 @@ union_built union_builder_append_null(union_builder builder, const uint8_t *name
                                       UNION_LENT_MUT);
 
 /* Appends readings in order. Reading k's name is the sizes[k] bytes of `text` from starts[k] on; present[k] is 1 for a value,
- * whose bits are bits[k], and 0 for a null. refusals[k] is its number: 128 where its kind or flag names no case or its name
- * does not lie in `text`. A refused reading changes nothing, and the next one follows. The answer's own refusal is 128 for
- * the builder, or 129 where the slices differ in length or `refusals` is shorter: then nothing is changed at all. */
+ * whose bits are bits[k], and 0 for a null. refusals[k] is its number: 0, 15 to 20, or 128 where its kind or flag names no
+ * case or its name lies outside `text`. A refused reading changes nothing, and the next one follows. The answer's own refusal
+ * is 128 where a number of the builder names no case, then 129 where `starts`, `sizes`, `kinds`, `present` and `bits` differ in
+ * length or `refusals` is shorter: then nothing is changed, `refusals` neither. */
 union_built union_builder_appends(union_builder builder, const uint8_t *text, size_t text_len, const uint32_t *starts,
                                   size_t starts_len, const uint8_t *sizes, size_t sizes_len, const uint8_t *kinds,
                                   size_t kinds_len, const uint8_t *present, size_t present_len, const uint64_t *bits,
                                   size_t bits_len, UNION_LENT_MUT, uint8_t *refusals, size_t refusals_len);
 
-/* How many slots there are. */
+/* How many slots there are. Nothing is asked: the builder is handed back as it came, whatever its numbers are. */
 union_length union_builder_len(union_builder builder);
 
 /* Describes the array so far, and keeps the builder. */

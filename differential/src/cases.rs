@@ -466,7 +466,7 @@ pub fn script_names(random: &mut Random, limit: usize) -> Vec<Vec<u8>> {
     names
 }
 
-fn odd_name(random: &mut Random) -> Vec<u8> {
+pub fn odd_name(random: &mut Random) -> Vec<u8> {
     match random.below(4) {
         0 => vec![b'x'; 33],
         1 => vec![0xff],

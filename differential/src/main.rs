@@ -19,7 +19,7 @@ use cases::{Fill, Input, Random};
 use compare::{Comparison, Port};
 use std::io::IsTerminal;
 use std::time::Instant;
-use tally::Tally;
+use tally::{Tally, Totals};
 
 fn word(name: &str) -> Option<String> {
     std::env::args().skip_while(|argument| argument != name).nth(1)
@@ -27,6 +27,10 @@ fn word(name: &str) -> Option<String> {
 
 fn option(name: &str, otherwise: u64) -> u64 {
     word(name).map_or(otherwise, |number| number.parse().expect("a number"))
+}
+
+fn flag(name: &str) -> bool {
+    std::env::args().any(|argument| argument == name)
 }
 
 /// A part of a run: its counts, its progress, and the first difference, made as small as can be.
@@ -63,17 +67,17 @@ impl<'a, P: Port> Part<'a, P> {
 
     fn progress(&mut self, end: &str) {
         self.shown = Instant::now();
-        eprint!("{}: {} inputs, {} answers compared{end}", self.title, self.inputs, self.comparison.tally.total());
+        eprint!("{}: {} inputs; {}{end}", self.title, self.inputs, self.comparison.tally.totals());
     }
 
-    fn close(self) -> u64 {
+    fn close(self) -> Totals {
         self.comparison.tally.close(&format!("{}: {} inputs", self.title, self.inputs));
-        self.comparison.tally.total()
+        self.comparison.tally.totals()
     }
 }
 
 /// All comparisons of one port; answers how many were made. `longest` is the capacity of the builders that are filled.
-fn compare<P: Port>(port: &P, seed: u64, cases: u64, longest: usize) -> u64 {
+fn compare<P: Port>(port: &P, seed: u64, cases: u64, longest: usize) -> Totals {
     let mut random = Random(seed);
     let mut batches = Part::new(port, "random batches, damaged ones, chains of slices", seed);
     for _ in 0..cases {
@@ -104,14 +108,31 @@ fn compare<P: Port>(port: &P, seed: u64, cases: u64, longest: usize) -> u64 {
     batches.close() + lists.close() + short.close() + filled.close()
 }
 
+/// The original's own examples, document 01's edges, and the rows of docs/DIFFERENCES.md.
+fn listed<P: Port>(port: &P) -> Totals {
+    let mut tally = Tally::default();
+    selfcheck::documented(&mut tally);
+    selfcheck::edges(&mut tally);
+    findings::all(port, &mut tally);
+    if !tally.close("the original's examples, document 01's edges, the rows of docs/DIFFERENCES.md") {
+        std::process::exit(1);
+    }
+    tally.totals()
+}
+
+fn all<P: Port>(port: &P, seed: u64, cases: u64, longest: usize) -> Totals {
+    let by_hand = if flag("--compare-only") { Totals::default() } else { listed(port) };
+    by_hand + compare(port, seed, cases, longest)
+}
+
 #[cfg(port)]
-fn compare_port(seed: u64, cases: u64) -> u64 {
+fn compare_port(seed: u64, cases: u64) -> Totals {
     println!("the port against the original, seed {seed}, {cases} cases");
-    port::boundary() + compare(&port::Proved, seed, cases, 65_536)
+    port::boundary() + all(&port::Proved, seed, cases, 65_536)
 }
 
 #[cfg(not(port))]
-fn compare_port(_seed: u64, _cases: u64) -> u64 {
+fn compare_port(_seed: u64, _cases: u64) -> Totals {
     panic!("built without the port: use --self")
 }
 
@@ -121,21 +142,12 @@ fn main() {
     if word("--sample").is_some() {
         return sample::write(option("--sample", 40), seed, &word("--into").expect("--into DIR"));
     }
-    let flag = |name: &str| std::env::args().any(|argument| argument == name);
-    let mut tally = Tally::default();
-    if !flag("--compare-only") {
-        selfcheck::documented(&mut tally);
-        selfcheck::edges(&mut tally);
-        findings::all(&mut tally);
-    }
-    if !tally.close("the original alone: its examples, document 01's edges, the findings") {
-        std::process::exit(1);
-    }
-    let total = if flag("--self") {
+    let totals = if flag("--self") {
         println!("the model in the port's place, seed {seed}, {cases} cases");
-        compare(&model::Model, seed, cases, 1500)
+        all(&model::Model, seed, cases, 1500)
     } else {
         compare_port(seed, cases)
     };
-    println!("{total} answers compared; no difference beside those that docs/DIFFERENCES.md names");
+    println!("compared: {totals}");
+    println!("no difference beside those that docs/DIFFERENCES.md names");
 }

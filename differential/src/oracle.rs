@@ -40,6 +40,16 @@ impl<T> Outcome<T> {
         matches!(self, Outcome::Answer(_))
     }
 
+    pub fn map<U>(self, change: impl FnOnce(T) -> U) -> Outcome<U> {
+        match self {
+            Outcome::Answer(answer) => Outcome::Answer(change(answer)),
+            Outcome::Refused(text) => Outcome::Refused(text),
+            Outcome::Panicked(text) => Outcome::Panicked(text),
+            Outcome::Undefined(text) => Outcome::Undefined(text),
+            Outcome::NotBuilt(text) => Outcome::NotBuilt(text),
+        }
+    }
+
     /// The same outcome without its answer's value or its text.
     pub fn sort(&self) -> &'static str {
         match self {
@@ -197,11 +207,10 @@ fn text_of(name: &[u8]) -> String {
     }
 }
 
+/// The name that was written down so; a text that `text_of` does not give, as a builder may have, is its own name.
 fn name_of(text: &str) -> Vec<u8> {
-    match text.strip_prefix(BYTES) {
-        Some(bytes) => bytes.chars().map(|byte| byte as u8).collect(),
-        None => text.as_bytes().to_vec(),
-    }
+    let bytes: Option<Vec<u8>> = text.strip_prefix(BYTES).map(|bytes| bytes.chars().map(|byte| byte as u8).collect());
+    bytes.filter(|bytes| text_of(bytes) == text).unwrap_or(text.as_bytes().to_vec())
 }
 
 // ------------------------------------------------------------------------------------------------ from plain data
@@ -327,6 +336,11 @@ impl Union {
 
     pub fn fields(&self) -> usize {
         self.0.fields().len()
+    }
+
+    /// The id and the name of each field, in list order.
+    pub fn listed(&self) -> Vec<(i8, Vec<u8>)> {
+        self.0.fields().iter().map(|(id, field)| (id, name_of(field.name()))).collect()
     }
 
     pub fn child(&self, id: i8) -> Outcome<Child> {

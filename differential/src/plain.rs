@@ -189,3 +189,12 @@ pub fn without_columns(type_ids: &[i8], offsets: Option<&[i32]>) -> Case {
     };
     Case { batch, lent }
 }
+
+/// A batch of Int8 columns given by id and slots, named a, b, c and on; a column with a null has a mask.
+pub fn int8_columns(type_ids: &[i8], offsets: Option<&[i32]>, columns: &[(i8, &[Option<u64>])]) -> Case {
+    let mut case = without_columns(type_ids, offsets);
+    for (place, (id, slots)) in columns.iter().enumerate() {
+        add_column(&mut case, *id, Kind::Int8, &[b'a'.wrapping_add(place as u8)], slots, slots.contains(&None));
+    }
+    case
+}

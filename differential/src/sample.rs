@@ -1,230 +1,181 @@
-//! Cases with the original's answers as plain numbers, for the program `replay`.
+//! Calls with their answers as plain numbers, for the program `replay`: its `stdin` and its `stdout`.
 //!
-//! The cases' file: for each case `1 layout fields children start count offsets_start offsets_count columns`, for each
-//! column `values mask name slots bit size id kind masked`, then the type ids (as bytes), offsets (as u32), values,
-//! masks and names, each as its length and its entries, then the number of calls and each call as `op a b`. A 0 ends
-//! the file. The answers' file has a line for each call: op, 1 if accepted or 0 if refused, and the answer's numbers.
-//! Cases of builders begin with 2; `sample/builders.rs` tells their form.
+//! `stdin` has cases, and a 0 after the last one. A case is
+//! - `1 layout fields children start count offsets_start offsets_count columns`, an array's description,
+//! - for each column `values mask name slots bit size id kind masked`,
+//! - lent memory, five lists: type ids (as bytes), offsets (as u32), values, masks, names. Each is how many entries are
+//!   lent, how many are given, and those; the rest are like the last one given (0 if there is none),
+//! - the names of readings, a list of bytes of the same form,
+//! - the readings, each `start size kind`, as how many numbers these are, and the numbers,
+//! - how many calls there are, and each call as `op a b by short`. `short` is 0, or 1 to 5 for the part of lent memory
+//!   of which this call is lent one entry less.
+//!
+//! `stdout` has a line for each call: `op by number`, and if the number is 0 the answer. A name is its length and bytes.
+//!
+//! | op | call | answer |
+//! |---|---|---|
+//! | 1 | `try_new` | |
+//! | 2, 3, 4 | `value`, `type_id`, `value_offset` of slot a | id, kind, missing, bits, name; id; offset |
+//! | 5 | `child` of id a | id, kind, slots, masked, name |
+//! | 6, 7, 8 | `type_names`, `is_dense`, `is_nullable` | how many, and the names; 0 or 1 |
+//! | 9 | `slice` (a, b), on which the next calls are made | slots |
+//! | 10, 11 | null mask at setting a, or by the strategy of route a, into b words of ones | present, nulls, route, words |
+//! | 12 | `type_ids` | how many, and the ids, 255 for one below 0 |
+//! | 13 | what the array lists, no call | how many fields, and each one's id and name |
+//! | 14 | the words of child a as they lie in lent memory, of arrays that a builder made | how many, and the words |
+//! | 15 | lent memory as it lies | its five parts, each as how many entries, and these |
+//! | 20, 21 | a dense or a sparse builder of a slots and b columns | |
+//! | 22, 23 | `append` of b, or `append_null`, to the column of reading a | |
+//! | 24 | `len` | slots |
+//! | 25, 26 | `finish_cloned`, `finish`; calls 1 to 14 are then made on its array | slots, fields |
+//!
+//! Whose word an answer is, its `by` says:
+//! - 0: the original's. It answered this, or it refused and its text tells the number (2, 5, 6, 7, 8, 18). Document 01's
+//!   even here are the bits 0 of a missing value and the zeros past a mask's last slot; a route is the one that was seen.
+//! - 1: the original refuses too, by a panic, which tells no number; the number is document 01's (`model.rs`).
+//! - 2: document 01's alone (`model.rs`): the original does not ask this question, or cannot be asked.
+//! - 3: `std::str::from_utf8` says that the name is not UTF-8, which the original's `&str` cannot be; 17 is document 01's.
 
+mod arrays;
 mod builders;
+mod questions;
 
-use crate::cases::{self, Random};
-use crate::compare::{GATHER_COSTS, STRATEGIES, number};
-use crate::model;
-use crate::oracle::{Nulls, Outcome, Union};
-use crate::plain::Case;
+use crate::cases::Random;
+use crate::compare::number;
+use crate::oracle::Outcome;
+use crate::plain::{Case, Kind, Lent};
 use std::fmt::Write;
 
-/// The calls and their answers.
+/// Whose word an answer is.
+#[derive(Clone, Copy, PartialEq)]
+enum By {
+    Original,
+    Panic,
+    Document,
+    Utf8,
+}
+
+/// An append's name and kind.
+type Reading = (Vec<u8>, Kind);
+
+/// The cases and the answers so far, and the calls of the case that is being made.
 #[derive(Default)]
 struct Sample {
     cases: String,
-    calls: Vec<[u64; 3]>,
+    calls: Vec<[u64; 5]>,
     answers: String,
+    /// The part of lent memory that the next call is lent too little of.
+    short: u8,
 }
 
-fn list<T>(text: &mut String, entries: &[T], number: impl Fn(&T) -> u64) {
+/// A list with its length.
+fn list(text: &mut String, entries: impl ExactSizeIterator<Item = u64>) {
     write!(text, "{}", entries.len()).unwrap();
-    for entry in entries {
-        write!(text, " {}", number(entry)).unwrap();
-    }
+    entries.for_each(|entry| write!(text, " {entry}").unwrap());
     text.push('\n');
 }
 
+/// A part of lent memory, without the entries at its end that are like the one before them.
+fn part<T: Copy + PartialEq>(text: &mut String, entries: &[T], number: impl Fn(T) -> u64) {
+    let last = entries.last();
+    let given = entries.iter().rposition(|entry| Some(entry) != last).map_or(entries.len().min(1), |place| place + 2);
+    write!(text, "{} ", entries.len()).unwrap();
+    list(text, entries[..given].iter().map(|entry| number(*entry)));
+}
+
+fn name_numbers(name: &[u8]) -> impl Iterator<Item = u64> {
+    std::iter::once(name.len() as u64).chain(name.iter().map(|byte| u64::from(*byte)))
+}
+
 impl Sample {
-    fn call(&mut self, op: u64, a: usize, b: usize, answer: Option<Vec<u64>>) {
-        self.calls.push([op, a as u64, b as u64]);
-        self.answer(op, answer);
-    }
-
-    fn answer(&mut self, op: u64, answer: Option<Vec<u64>>) {
-        write!(self.answers, "{op} {}", u8::from(answer.is_some())).unwrap();
-        for number in answer.unwrap_or_default() {
-            write!(self.answers, " {number}").unwrap();
-        }
+    /// A call with its number and answer.
+    fn call(&mut self, op: u64, [a, b]: [usize; 2], by: By, number: u8, answer: Vec<u64>) {
+        self.calls.push([op, a as u64, b as u64, by as u64, self.short.into()]);
+        write!(self.answers, "{op} {} {number}", by as u8).unwrap();
+        answer.iter().for_each(|number| write!(self.answers, " {number}").unwrap());
         self.answers.push('\n');
+        self.short = 0;
     }
 
-    /// Writes down a case with the calls that were made on it.
-    fn case(&mut self, case: &Case) {
+    /// A call that the original was asked; `document` is document 01's number of it.
+    fn asked(&mut self, op: u64, arguments: [usize; 2], document: u8, outcome: Outcome<Vec<u64>>) {
+        match (document, outcome) {
+            (0, Outcome::Answer(answer)) => self.call(op, arguments, By::Original, 0, answer),
+            (1 | 3 | 4, Outcome::Refused(_)) => self.call(op, arguments, By::Document, document, vec![]),
+            (_, Outcome::Answer(_) | Outcome::NotBuilt(_)) if document > 0 => {
+                self.call(op, arguments, By::Document, document, vec![]);
+            }
+            (_, Outcome::Panicked(_)) if document > 0 => self.call(op, arguments, By::Panic, document, vec![]),
+            (_, outcome @ Outcome::Refused(_)) => {
+                assert_eq!(number(&outcome), document, "the original refuses by document 01's number");
+                self.call(op, arguments, By::Original, document, vec![]);
+            }
+            (_, outcome) => panic!("call {op}: document 01 answers {document}, the original {outcome:?}"),
+        }
+    }
+
+    /// Writes down a case with the calls that were made since the last one.
+    fn case(&mut self, case: &Case, readings: &[Reading]) {
+        self.description(case);
+        self.memory(&case.lent);
+        let (mut names, mut places) = (Vec::new(), Vec::new());
+        for (name, kind) in readings {
+            places.extend([names.len() as u64, name.len() as u64, *kind as u64]);
+            names.extend_from_slice(name);
+        }
+        part(&mut self.cases, &names, u64::from);
+        list(&mut self.cases, places.into_iter());
+        writeln!(self.cases, "{}", self.calls.len()).unwrap();
+        for [op, a, b, by, short] in self.calls.drain(..) {
+            writeln!(self.cases, "{op} {a} {b} {by} {short}").unwrap();
+        }
+    }
+
+    fn description(&mut self, case: &Case) {
         let (batch, text) = (&case.batch, &mut self.cases);
-        writeln!(
-            text,
-            "1 {} {} {} {} {} {} {} {}",
-            u8::from(batch.dense),
-            batch.fields,
-            batch.children,
-            batch.start,
-            batch.count,
-            batch.offsets_start,
-            batch.offsets_count,
-            batch.columns.len()
-        )
-        .unwrap();
+        let (dense, fields, children) = (u8::from(batch.dense), batch.fields, batch.children);
+        let (start, count) = (batch.start, batch.count);
+        let (offsets_start, offsets_count) = (batch.offsets_start, batch.offsets_count);
+        write!(text, "1 {dense} {fields} {children} {start} {count} {offsets_start} {offsets_count} ").unwrap();
+        writeln!(text, "{}", batch.columns.len()).unwrap();
         for column in &batch.columns {
             let (id, kind, masked) = (column.id as u8, column.kind as u8, u8::from(column.masked));
             let (values, mask, name) = (column.values, column.mask, column.name);
             let (slots, bit, size) = (column.slots, column.bit, column.size);
             writeln!(text, "{values} {mask} {name} {slots} {bit} {size} {id} {kind} {masked}").unwrap();
         }
-        list(text, &case.lent.type_ids, |id| u64::from(*id as u8));
-        list(text, &case.lent.offsets, |offset| u64::from(*offset as u32));
-        list(text, &case.lent.values, |word| *word);
-        list(text, &case.lent.masks, |word| *word);
-        list(text, &case.lent.names, |byte| u64::from(*byte));
-        self.call_list();
     }
 
-    /// Writes down the calls that were made since the last case.
-    fn call_list(&mut self) {
-        writeln!(self.cases, "{}", self.calls.len()).unwrap();
-        for [op, a, b] in self.calls.drain(..) {
-            writeln!(self.cases, "{op} {a} {b}").unwrap();
-        }
-    }
-
-    fn slot(&mut self, union: &Union, slot: usize) {
-        let value = union.value(slot).answer().map(|value| {
-            let bits = if value.missing { 0 } else { value.bits };
-            vec![value.id as u64, value.kind as u64, u64::from(value.missing), bits]
-        });
-        self.call(2, slot, 0, value);
-        self.call(3, slot, 0, union.type_id(slot).answer().map(|id| vec![id as u64]));
-        self.call(4, slot, 0, union.value_offset(slot).answer().map(|offset| vec![offset as u64]));
-    }
-
-    fn whole(&mut self, random: &mut Random, case: &Case, union: &Union) {
-        for id in case.batch.columns.iter().map(|column| column.id).take(4).chain([-1, random.next() as i8]) {
-            let child = union.child(id).answer();
-            self.call(
-                5,
-                usize::from(id as u8),
-                0,
-                child.map(|child| vec![child.kind as u64, child.words.len() as u64]),
-            );
-        }
-        let names = union.type_names().answer().unwrap();
-        let sizes = names.iter().map(|name| name.len() as u64);
-        self.call(6, 0, 0, Some(std::iter::once(names.len() as u64).chain(sizes).collect()));
-        self.call(7, 0, 0, Some(vec![u64::from(union.is_dense().answer().unwrap())]));
-        self.call(8, 0, 0, Some(vec![u64::from(union.is_nullable().answer().unwrap())]));
-    }
-
-    fn masks(&mut self, random: &mut Random, case: &Case, union: &Union) {
-        let need = case.batch.count.div_ceil(64);
-        for cost in GATHER_COSTS {
-            let lent = need + random.below(2);
-            let nulls = union.logical_nulls(cost).answer().unwrap();
-            // A strategy's words when the mask is absent: those that the same strategy gives by itself.
-            let by_name = STRATEGIES.iter().find(|strategy| model::route(**strategy) == nulls.route);
-            let words = match by_name {
-                Some(strategy) => union.strategy(*strategy).answer().unwrap().bits,
-                None => nulls.bits.clone(),
-            };
-            self.call(10, cost.into(), lent, Some(mask_numbers(&nulls, &words, lent)));
-        }
-        for strategy in STRATEGIES.into_iter().filter(|strategy| case.strategy_applies(*strategy)) {
-            let lent = need + random.below(2);
-            let nulls = union.strategy(strategy).answer().unwrap();
-            let route = model::route(strategy);
-            self.call(11, route.into(), lent, Some(mask_numbers(&nulls, &nulls.bits, lent)));
-        }
+    fn memory(&mut self, lent: &Lent) {
+        let text = &mut self.cases;
+        part(text, &lent.type_ids, |id| u64::from(id as u8));
+        part(text, &lent.offsets, |offset| u64::from(offset as u32));
+        part(text, &lent.values, |word| word);
+        part(text, &lent.masks, |word| word);
+        part(text, &lent.names, u64::from);
     }
 }
 
-/// Presence, null count and route, and the lent words at exit, all ones before.
-fn mask_numbers(nulls: &Nulls, words: &[u64], lent: usize) -> Vec<u64> {
-    let count = if nulls.present { nulls.null_count } else { 0 };
-    let mut numbers = vec![u64::from(nulls.present), count as u64, nulls.route.into()];
-    let written = if nulls.route == 0 { &[] } else { words };
-    numbers.extend(written);
-    numbers.resize(3 + lent, u64::MAX);
-    numbers
-}
-
-/// Some slots of a union, the first and the last among them.
-fn slots(random: &mut Random, count: usize) -> Vec<usize> {
-    let mut slots = vec![count];
-    if count > 0 {
-        slots.extend([0, count - 1]);
-        slots.extend((0..4).map(|_| random.below(count)));
-    }
-    slots
-}
-
-/// A batch of at most 130 slots and few fields; most of its words are small, to keep the file short.
-fn accepted(random: &mut Random) -> Case {
-    let dense = random.one_in(3);
-    let fields = random.pick(&[1, 2, 2, 2, 3, 3, 4, 5, 6]);
-    let count = random.pick(&[0, 1, 2, 5, 31, 63, 64, 65, 100, 127, 128, 130]);
-    let mut case = cases::accepted_of(random, dense, fields, count);
-    for word in &mut case.lent.values {
-        if !random.one_in(8) {
-            *word %= 1000;
-        }
-    }
-    case
-}
-
-/// Calls on a union and on a chain of its slices; answers the last one that was accepted.
-fn calls_on(random: &mut Random, sample: &mut Sample, mut case: Case, mut union: Union) -> Union {
-    let slices = cases::slices(random, case.batch.count);
-    for (start, count) in std::iter::once((0, case.batch.count)).chain(slices) {
-        if (start, count) != (0, case.batch.count) {
-            let sliced = union.slice(start, count);
-            sample.call(9, start, count, sliced.clone().answer().map(|union| vec![union.count() as u64]));
-            let Outcome::Answer(sliced) = sliced else { break };
-            union = sliced;
-            case.batch = case.sliced(start, count).expect("a slice in range");
-        }
-        for slot in slots(random, case.batch.count) {
-            sample.slot(&union, slot);
-        }
-        sample.whole(random, &case, &union);
-        sample.masks(random, &case, &union);
-    }
-    union
-}
-
-fn sample_of(random: &mut Random, sample: &mut Sample) {
-    let case = accepted(random);
-    let union = Union::try_new(&case.batch, &case.lent).answer().expect("an accepted batch");
-    sample.call(1, 0, 0, Some(vec![]));
-    calls_on(random, sample, case.clone(), union);
-    sample.case(&case);
-}
-
-/// A batch that the original's `try_new` refuses.
-fn refused(random: &mut Random) -> Case {
-    loop {
-        let mut case = accepted(random);
-        cases::damage(random, &mut case);
-        let original = Union::try_new(&case.batch, &case.lent);
-        let asked = !matches!(case.first_no(), 1 | 3 | 4);
-        if asked && matches!(number(&original), 2 | 5 | 6 | 7 | 8) {
-            return case;
-        }
-    }
-}
-
-/// Writes `stdin` and `stdout` into a folder: this many arrays, one in four refused, and a quarter as many builders.
+/// Writes `stdin` and `stdout` into a folder: a case for each question and each kind, then this many random arrays, one
+/// in four refused, and a quarter as many random builders.
 pub fn write(cases: u64, seed: u64, folder: &str) {
     let (mut random, mut sample) = (Random(seed), Sample::default());
+    questions::all(&mut random, &mut sample);
+    builders::all(&mut random, &mut sample);
     for k in 0..cases {
-        if k % 4 == 3 {
-            let case = refused(&mut random);
-            sample.call(1, 0, 0, None);
-            sample.case(&case);
-        } else {
-            sample_of(&mut random, &mut sample);
-        }
+        arrays::random_case(&mut random, &mut sample, k % 4 == 3);
     }
     for _ in 0..cases / 4 {
-        builders::sample_of(&mut random, &mut sample);
+        builders::random_case(&mut random, &mut sample);
     }
     sample.cases.push_str("0\n");
     std::fs::write(format!("{folder}/stdin"), &sample.cases).expect("a folder to write to");
     std::fs::write(format!("{folder}/stdout"), &sample.answers).expect("a folder to write to");
-    let builders = cases / 4;
-    println!("{cases} arrays, {builders} builders and {} answers in {folder}", sample.answers.lines().count());
+    let mut counts = [0; 4];
+    for line in sample.answers.lines() {
+        counts[usize::from(line.split(' ').nth(1).unwrap().as_bytes()[0] - b'0')] += 1;
+    }
+    let [original, panic, document, utf8] = counts;
+    println!("{} answers in {folder}: the original's {original}, its panics {panic}", sample.answers.lines().count());
+    println!("document 01's alone {document}, from_utf8's {utf8}");
 }

@@ -6,7 +6,11 @@ use std::num::NonZeroU8;
 
 /// Why a call was refused. After a refusal everything is as it was before the call.
 ///
-/// Numbers 1 to 20 are those of the questions of document 01; 128 and 129 are the C boundary's own.
+/// Numbers 1 to 20 are those of the questions of document 01. Two stand beside them, the C boundary's own, which no
+/// call of this crate meets: 128, asked before the first question, where a number names no kind, layout, flag or
+/// strategy (in a run of appends also where a reading's name lies outside the text); 129 where a slice of a run does
+/// not have the length that it wants. A run has a number for each of its readings: see [`RefusedReadings`].
+/// `docs/REFUSALS.md` of the repository has every number, its question, and which call asks it when.
 #[derive(Clone, Copy, Debug, PartialEq, Eq, Hash)]
 pub struct Refusal {
     number: NonZeroU8,
@@ -51,7 +55,7 @@ impl Refusal {
             18 => "the column with this name has another kind",
             19 => "the builder has no slot left",
             20 => "the name is new, and the builder has no column left",
-            128 => "a number names no layout, kind, flag or strategy",
+            128 => "a number names no kind, layout, flag or strategy, or a reading's name lies outside the text",
             129 => "a slice does not have the length that the run wants",
             _ => "no such refusal",
         }

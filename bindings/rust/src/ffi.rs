@@ -7,7 +7,7 @@ use std::mem::{offset_of, size_of};
 
 /// An entry of the column list.
 #[repr(C)]
-#[derive(Clone, Copy, Default)]
+#[derive(Clone, Copy, Debug, Default, PartialEq)]
 pub struct Column {
     pub values: usize,
     pub mask: usize,
@@ -22,7 +22,7 @@ pub struct Column {
 
 /// A union array. Entries past `fields` may hold anything.
 #[repr(C)]
-#[derive(Clone, Copy)]
+#[derive(Clone, Copy, Debug, PartialEq)]
 pub struct Array {
     pub columns: [Column; MAX_COLUMNS],
     pub fields: usize,
@@ -35,7 +35,7 @@ pub struct Array {
 }
 
 #[repr(C)]
-#[derive(Clone, Copy)]
+#[derive(Clone, Copy, Debug, PartialEq)]
 pub struct Value {
     pub bits: u64,
     pub name: [u8; NAME_BYTES],
@@ -47,35 +47,35 @@ pub struct Value {
 }
 
 #[repr(C)]
-#[derive(Clone, Copy)]
+#[derive(Clone, Copy, Debug, PartialEq)]
 pub struct TypeId {
     pub refusal: u8,
     pub id: i8,
 }
 
 #[repr(C)]
-#[derive(Clone, Copy)]
+#[derive(Clone, Copy, Debug, PartialEq)]
 pub struct ValueOffset {
     pub offset: usize,
     pub refusal: u8,
 }
 
 #[repr(C)]
-#[derive(Clone, Copy)]
+#[derive(Clone, Copy, Debug, PartialEq)]
 pub struct Child {
     pub column: Column,
     pub refusal: u8,
 }
 
 #[repr(C)]
-#[derive(Clone, Copy)]
+#[derive(Clone, Copy, Debug, PartialEq)]
 pub struct NamePlace {
     pub start: usize,
     pub size: u8,
 }
 
 #[repr(C)]
-#[derive(Clone, Copy)]
+#[derive(Clone, Copy, Debug, PartialEq)]
 pub struct TypeNames {
     pub names: [NamePlace; MAX_COLUMNS],
     pub count: usize,
@@ -83,21 +83,21 @@ pub struct TypeNames {
 }
 
 #[repr(C)]
-#[derive(Clone, Copy)]
+#[derive(Clone, Copy, Debug, PartialEq)]
 pub struct Flag {
     pub refusal: u8,
     pub holds: u8,
 }
 
 #[repr(C)]
-#[derive(Clone, Copy)]
+#[derive(Clone, Copy, Debug, PartialEq)]
 pub struct Slice {
     pub array: Array,
     pub refusal: u8,
 }
 
 #[repr(C)]
-#[derive(Clone, Copy)]
+#[derive(Clone, Copy, Debug, PartialEq)]
 pub struct Part {
     pub start: usize,
     pub count: usize,
@@ -105,7 +105,7 @@ pub struct Part {
 }
 
 #[repr(C)]
-#[derive(Clone, Copy)]
+#[derive(Clone, Copy, Debug, PartialEq)]
 pub struct Nulls {
     pub nulls: usize,
     pub refusal: u8,
@@ -124,7 +124,7 @@ pub struct BuilderColumn {
 
 /// A builder. Entries past `count` may hold anything.
 #[repr(C)]
-#[derive(Clone, Copy)]
+#[derive(Clone, Copy, Debug, PartialEq)]
 pub struct Builder {
     pub columns: [BuilderColumn; MAX_COLUMNS],
     pub capacity: usize,
@@ -135,52 +135,67 @@ pub struct Builder {
 }
 
 #[repr(C)]
-#[derive(Clone, Copy)]
+#[derive(Clone, Copy, Debug, PartialEq)]
 pub struct Built {
     pub builder: Builder,
     pub refusal: u8,
 }
 
 #[repr(C)]
-#[derive(Clone, Copy)]
+#[derive(Clone, Copy, Debug, PartialEq)]
 pub struct Length {
     pub builder: Builder,
     pub len: usize,
-    pub refusal: u8,
 }
 
 #[repr(C)]
-#[derive(Clone, Copy)]
+#[derive(Clone, Copy, Debug, PartialEq)]
 pub struct Finished {
     pub builder: Builder,
     pub array: Array,
     pub refusal: u8,
 }
 
-// The places that bindings/check.c asserts of the header.
-const _: () = assert!(size_of::<Column>() == 40 && offset_of!(Column, slots) == 24 && offset_of!(Column, masked) == 32);
-const _: () = assert!(size_of::<Array>() == 5176 && offset_of!(Array, fields) == 5120);
-const _: () = assert!(offset_of!(Array, offsets_count) == 5160 && offset_of!(Array, layout) == 5168);
-const _: () = assert!(size_of::<Value>() == 48 && offset_of!(Value, name) == 8 && offset_of!(Value, missing) == 44);
-const _: () = assert!(size_of::<TypeId>() == 2 && size_of::<ValueOffset>() == 16 && size_of::<Child>() == 48);
-const _: () = assert!(size_of::<NamePlace>() == 16 && size_of::<TypeNames>() == 2064 && size_of::<Flag>() == 2);
-const _: () = assert!(size_of::<Slice>() == 5184 && size_of::<Part>() == 24 && size_of::<Nulls>() == 16);
-const _: () = assert!(size_of::<BuilderColumn>() == 8 && offset_of!(BuilderColumn, masked) == 6);
-const _: () = assert!(size_of::<Builder>() == 1064 && offset_of!(Builder, layout) == 1056);
-const _: () = assert!(size_of::<Built>() == 1072 && size_of::<Length>() == 1080 && size_of::<Finished>() == 6248);
+/// Asserts the size of each struct and the place of each of its fields, as bindings/places.c does of the header.
+macro_rules! places {
+    ($($type:ident $size:literal: $($field:ident $place:literal),*;)*) => {$(
+        const _: () = assert!(size_of::<$type>() == $size $(&& offset_of!($type, $field) == $place)*);
+    )*};
+}
+
+places! {
+    Column 40: values 0, mask 8, name 16, slots 24, bit 28, size 29, id 30, kind 31, masked 32;
+    Array 5176: columns 0, fields 5120, children 5128, start 5136, count 5144, offsets_start 5152, offsets_count 5160,
+        layout 5168;
+    Value 48: bits 0, name 8, size 40, refusal 41, id 42, kind 43, missing 44;
+    TypeId 2: refusal 0, id 1;
+    ValueOffset 16: offset 0, refusal 8;
+    Child 48: column 0, refusal 40;
+    NamePlace 16: start 0, size 8;
+    TypeNames 2064: names 0, count 2048, refusal 2056;
+    Flag 2: refusal 0, holds 1;
+    Slice 5184: array 0, refusal 5176;
+    Part 24: start 0, count 8, refusal 16;
+    Nulls 16: nulls 0, refusal 8, route 9, present 10;
+    BuilderColumn 8: slots 0, size 4, kind 5, masked 6;
+    Builder 1064: columns 0, capacity 1024, limit 1032, len 1040, count 1048, layout 1056;
+    Built 1072: builder 0, refusal 1064;
+    Length 1072: builder 0, len 1064;
+    Finished 6248: builder 0, array 1064, refusal 6240;
+}
 
 // -------------------------------------------------------------------------------------------------------- functions
 
 /// Declares functions over lent memory, read (`const`) or written (`mut`). A slice is a pointer and a length; `lent`
-/// stands for the five slices of lent memory, a slice after it is an output.
+/// stands for the five slices of lent memory, what follows it are slices of outputs.
 macro_rules! functions {
-    ($($access:tt $name:ident($($argument:ident: $type:ty),*; lent $(; $out:ty)*) -> $answer:ty;)*) => {
+    ($($access:tt $name:ident($($argument:ident: $type:ty),*; lent $(; $out:ident: $element:ty)*) -> $answer:ty;)*) => {
         unsafe extern "C" {$(
             fn $name(
                 $($argument: $type,)*
                 type_ids: *$access i8, type_ids_len: usize, offsets: *$access i32, offsets_len: usize,
                 values: *$access u64, values_len: usize, masks: *$access u64, masks_len: usize,
-                names: *$access u8, names_len: usize $(, _: *mut $out, _: usize)*
+                names: *$access u8, names_len: usize $(, $out: *mut $element, _: usize)*
             ) -> $answer;
         )*}
     };
@@ -197,9 +212,9 @@ functions! {
     const union_array_is_nullable(array: Array; lent) -> Flag;
     const union_array_type_ids(array: Array; lent) -> Part;
     const union_array_slice(array: Array, o: usize, n: usize; lent) -> Slice;
-    const union_logical_nulls(array: Array, cost: usize; lent; u64) -> Nulls;
-    const union_strategy(array: Array, strategy: u8; lent; u64) -> Nulls;
-    const union_array_values(array: Array, first: usize, n: usize; lent; i8; u8; u64) -> u8;
+    const union_logical_nulls(array: Array, cost: usize; lent; out: u64) -> Nulls;
+    const union_strategy(array: Array, strategy: u8; lent; out: u64) -> Nulls;
+    const union_array_values(array: Array, first: usize, n: usize; lent; ids: i8; missing: u8; bits: u64) -> u8;
     const union_builder_new_dense(limit: usize; lent) -> Built;
     const union_builder_new_sparse(limit: usize; lent) -> Built;
     const union_builder_with_capacity_dense(capacity: usize, limit: usize; lent) -> Built;
@@ -211,7 +226,7 @@ functions! {
     mut union_builder_appends(
         builder: Builder, text: *const u8, text_len: usize, starts: *const u32, starts_len: usize, sizes: *const u8,
         sizes_len: usize, kinds: *const u8, kinds_len: usize, present: *const u8, present_len: usize,
-        bits: *const u64, bits_len: usize; lent; u8
+        bits: *const u64, bits_len: usize; lent; refusals: u8
     ) -> Built;
 }
 
@@ -387,3 +402,6 @@ pub fn builder_finish(builder: &Builder, lent: &Buffers) -> Finished {
     // SAFETY: each pointer is that of a slice of the length beside it, borrowed for the call.
     unsafe { read!(union_builder_finish(*builder; lent)) }
 }
+
+#[cfg(test)]
+mod tests;

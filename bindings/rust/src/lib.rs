@@ -25,6 +25,7 @@
 //! ```
 //!
 //! What a call refuses it answers with a [`Refusal`]: a number, and a sentence for it. A refused call changes nothing.
+//! `docs/REFUSALS.md` of the repository has every number, its question, and which call asks it when.
 //!
 //! Builder and arrays own their memory. [`UnionBuilder::finish`] hands it to the array, [`UnionBuilder::finish_cloned`]
 //! copies the parts in use, and slices share it, so that what an array tells stays as it is.

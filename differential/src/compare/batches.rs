@@ -3,6 +3,7 @@
 use super::{Comparison, Mask, Outputs, Port, STRATEGIES, number};
 use crate::oracle::{Outcome, Union, Value};
 use crate::plain::{Batch, Case, Column};
+use crate::tally::Sort;
 
 impl<P: Port> Comparison<'_, P> {
     /// All calls on a batch, acceptable or not.
@@ -14,9 +15,9 @@ impl<P: Port> Comparison<'_, P> {
         let original = Union::try_new(batch, lent);
         match case.first_no() {
             first @ (1 | 3 | 4) => {
-                self.tally.same("try_new: 1, 3, 4", answer, first);
+                self.tally.model("try_new: 1, 3, 4", answer, first);
                 let held = first != 3 || matches!(original, Outcome::NotBuilt(_)) || case.over_32();
-                self.tally.same("3: a part outside, or a long name", held, true);
+                self.tally.alone("3: a part outside, or a long name", held, true);
                 match (first, &original) {
                     (1, Outcome::Answer(_)) => self.tally.known("field-ids"),
                     (3, Outcome::Answer(_)) => self.tally.known("long-names"),
@@ -25,8 +26,8 @@ impl<P: Port> Comparison<'_, P> {
                     _ => (),
                 }
             }
-            2 if matches!(original, Outcome::NotBuilt(_)) => self.tally.same("try_new: 2", answer, 2),
-            _ => self.tally.same("try_new", answer, number(&original)),
+            2 if matches!(original, Outcome::NotBuilt(_)) => self.tally.model("try_new: 2", answer, 2),
+            _ => self.tally.original("try_new", answer, number(&original)),
         }
         match Union::new_unchecked(batch, lent) {
             Outcome::Answer(union) if case.first_no() == 0 => {
@@ -34,12 +35,12 @@ impl<P: Port> Comparison<'_, P> {
                 self.masks(case, &union, answer);
                 if answer == 0 {
                     let checked = original.answer().map(|union| union.describe());
-                    self.tally.same("new_unchecked as try_new", checked, Some(union.describe()));
+                    self.tally.alone("new_unchecked as try_new", checked, Some(union.describe()));
                 }
             }
             _ => self.refused(case),
         }
-        self.tally.same("calls on a batch: lent memory kept", case.lent == before, true);
+        self.tally.model("calls on a batch: lent memory kept", case.lent == before, true);
     }
 
     /// A batch that 1 to 6 refuse: every call has that number and zeros, and writes nothing.
@@ -48,21 +49,21 @@ impl<P: Port> Comparison<'_, P> {
         let first = case.first_no();
         let none = Mask::default();
         let tally = &mut self.tally;
-        tally.same("refused: child", port.child(batch, lent, 0), (first, Column::EMPTY));
-        tally.same("refused: type_id", port.type_id(batch, lent, 0), (first, 0));
-        tally.same("refused: value_offset", port.value_offset(batch, lent, 0), (first, 0));
-        tally.same("refused: value", port.value(batch, lent, 0), (first, Value::default()));
-        tally.same("refused: type_names", port.type_names(batch, lent), (first, vec![]));
-        tally.same("refused: is_dense", port.is_dense(batch, lent), (first, false));
-        tally.same("refused: is_nullable", port.is_nullable(batch, lent), (first, false));
-        tally.same("refused: type_ids", port.type_ids(batch, lent), (first, 0, 0));
-        tally.same("refused: slice", port.slice(batch, lent, 0, 0), (first, Batch::empty()));
+        tally.model("refused: child", port.child(batch, lent, 0), (first, Column::EMPTY));
+        tally.model("refused: type_id", port.type_id(batch, lent, 0), (first, 0));
+        tally.model("refused: value_offset", port.value_offset(batch, lent, 0), (first, 0));
+        tally.model("refused: value", port.value(batch, lent, 0), (first, Value::default()));
+        tally.model("refused: type_names", port.type_names(batch, lent), (first, vec![]));
+        tally.model("refused: is_dense", port.is_dense(batch, lent), (first, false));
+        tally.model("refused: is_nullable", port.is_nullable(batch, lent), (first, false));
+        tally.model("refused: type_ids", port.type_ids(batch, lent), (first, 0, 0));
+        tally.model("refused: slice", port.slice(batch, lent, 0, 0), (first, Batch::empty()));
         let mut out = vec![9; batch.count.div_ceil(64).min(1100)];
-        tally.same("refused: null mask", port.null_mask(batch, lent, 10, &mut out), (first, none.clone()));
+        tally.model("refused: null mask", port.null_mask(batch, lent, 10, &mut out), (first, none.clone()));
         for strategy in STRATEGIES {
-            tally.same("refused: strategy", port.strategy(batch, lent, strategy, &mut out), (first, none.clone()));
+            tally.model("refused: strategy", port.strategy(batch, lent, strategy, &mut out), (first, none.clone()));
         }
-        tally.same("refused: words untouched", out.iter().all(|word| *word == 9), true);
+        tally.model("refused: words untouched", out.iter().all(|word| *word == 9), true);
     }
 
     pub(super) fn lookups(&mut self, case: &Case, union: &Union) {
@@ -75,33 +76,33 @@ impl<P: Port> Comparison<'_, P> {
         self.values(case, union);
         let tally = &mut self.tally;
         for out in [count, count + 1, usize::MAX] {
-            tally.same("10 is a panic of the original", union.value(out).sort(), "panicked");
+            tally.alone("10 is a panic of the original", union.value(out).sort(), "panicked");
             tally.known("panic");
-            tally.same("value: 10", port.value(batch, lent, out), (10, Value::default()));
-            tally.same("type_id: 10", port.type_id(batch, lent, out), (10, 0));
-            tally.same("value_offset: 10", port.value_offset(batch, lent, out), (10, 0));
+            tally.model("value: 10", port.value(batch, lent, out), (10, Value::default()));
+            tally.model("type_id: 10", port.type_id(batch, lent, out), (10, 0));
+            tally.model("value_offset: 10", port.value_offset(batch, lent, out), (10, 0));
         }
-        tally.same("count", count, union.count());
-        tally.same("M and F", case.masked(), union.masked());
-        tally.same("is_dense", port.is_dense(batch, lent), (0, union.is_dense().answer().unwrap()));
-        tally.same("is_nullable", port.is_nullable(batch, lent), (0, union.is_nullable().answer().unwrap()));
+        tally.alone("count", count, union.count());
+        tally.alone("M and F", case.masked(), union.masked());
+        tally.original("is_dense", port.is_dense(batch, lent), (0, union.is_dense().answer().unwrap()));
+        tally.original("is_nullable", port.is_nullable(batch, lent), (0, union.is_nullable().answer().unwrap()));
         let (number, first, shown) = port.type_ids(batch, lent);
         let ids = if first == batch.start { lent.type_ids[first..][..shown].to_vec() } else { vec![] };
-        tally.same("type_ids", (number, shown, ids), (0, count, union.0.type_ids().to_vec()));
+        tally.original("type_ids", (number, shown, ids), (0, count, union.0.type_ids().to_vec()));
         let (number, places) = port.type_names(batch, lent);
         let names = places.iter().map(|(start, size)| lent.names[*start..][..*size].to_vec()).collect();
-        tally.same("type_names", (number, names), (0, union.type_names().answer().unwrap()));
+        tally.original("type_names", (number, names), (0, union.type_names().answer().unwrap()));
         for (start, length) in
             [(0, count), (count, 0), (count, 1), (0, count + 1), (usize::MAX, 2), (count / 2, count / 3)]
         {
             let sliced = port.slice(batch, lent, start, length);
             let expected = case.sliced(start, length).map_or((9, Batch::empty()), |batch| (0, batch));
             let original = union.slice(start, length);
-            tally.same("slice", sliced.0 == 0, original.is_answer());
+            tally.original("slice", sliced.0 == 0, original.is_answer());
             if original.sort() == "panicked" {
                 tally.known("panic");
             }
-            tally.same("slice: description", sliced, expected);
+            tally.model("slice: description", sliced, expected);
         }
         for id in [-128, -1, 0, 1, 127, self.random.next() as i8] {
             self.child(case, union, id);
@@ -136,7 +137,8 @@ impl<P: Port> Comparison<'_, P> {
                 after = out.clone();
             }
             let Some(answer) = self.port.values(&case.batch, &case.lent, first, length, &mut out) else { return };
-            self.tally.same("run of values", (answer, &out), (number, &after));
+            let sort = if number == 0 { Sort::Original } else { Sort::Model };
+            self.tally.same(sort, "run of values", (answer, &out), (number, &after));
             if whole && length > 0 {
                 let mut few = Outputs { ids: vec![9; length], missing: vec![9; length], bits: vec![9; length] };
                 match self.random.below(3) {
@@ -146,8 +148,8 @@ impl<P: Port> Comparison<'_, P> {
                 }
                 let before = few.clone();
                 let answer = self.port.values(&case.batch, &case.lent, first, length, &mut few);
-                let number = if number == 0 { 129 } else { number };
-                self.tally.same("run of values: 129", (answer, few), (Some(number), before));
+                let (sort, number) = if number == 0 { (Sort::Port, 129) } else { (Sort::Model, number) };
+                self.tally.same(sort, "run of values: 129", (answer, few), (Some(number), before));
             }
         }
     }
@@ -162,20 +164,20 @@ impl<P: Port> Comparison<'_, P> {
                     tally.known("word-under-null");
                     expected.bits = 0;
                 }
-                tally.same("value", value, (0, expected));
-                tally.same("type_id", type_id, (0, union.type_id(slot).answer().unwrap()));
-                tally.same("value_offset", value_offset, (0, union.value_offset(slot).answer().unwrap()));
+                tally.original("value", value, (0, expected));
+                tally.original("type_id", type_id, (0, union.type_id(slot).answer().unwrap()));
+                tally.original("value_offset", value_offset, (0, union.value_offset(slot).answer().unwrap()));
             }
             panicked => {
                 let first = case.slot_no(slot);
-                tally.same("7 and 8 are a panic of the original", panicked.sort(), "panicked");
+                tally.alone("7 and 8 are a panic of the original", panicked.sort(), "panicked");
                 tally.known("panic");
                 if union.type_id(slot).is_answer() || union.value_offset(slot).is_answer() {
                     tally.known("unchecked");
                 }
-                tally.same("value: 7, 8", value, (first, Value::default()));
-                tally.same("type_id: 7, 8", type_id, (first, 0));
-                tally.same("value_offset: 7, 8", value_offset, (first, 0));
+                tally.model("value: 7, 8", value, (first, Value::default()));
+                tally.model("type_id: 7, 8", type_id, (first, 0));
+                tally.model("value_offset: 7, 8", value_offset, (first, 0));
             }
         }
     }
@@ -185,13 +187,14 @@ impl<P: Port> Comparison<'_, P> {
         match union.child(id) {
             Outcome::Answer(child) => {
                 let listed = (0..case.batch.fields).any(|k| *case.batch.column(k) == column);
-                self.tally.same("child", (number, column.id, listed), (0, id, true));
-                self.tally.same("child: contents", case.contents(&column), child);
+                self.tally.original("child", number, 0);
+                self.tally.model("child: the entry listed", (column.id, listed), (id, true));
+                self.tally.original("child: contents", case.contents(&column), child);
             }
             panicked => {
-                self.tally.same("11 is a panic of the original", panicked.sort(), "panicked");
+                self.tally.alone("11 is a panic of the original", panicked.sort(), "panicked");
                 self.tally.known("panic");
-                self.tally.same("child: 11", (number, column), (11, Column::EMPTY));
+                self.tally.model("child: 11", (number, column), (11, Column::EMPTY));
             }
         }
     }

@@ -50,7 +50,7 @@ impl<P: Port> Comparison<'_, P> {
         let lent = memory(&mut self.random, capacity, limit);
         let book = Book { dense, capacity, limit, ..Book::default() };
         let (number, state) = self.port.with_capacity(dense, capacity, limit, &lent);
-        self.tally.same("making", (number, &state), (0, &book.state()));
+        self.tally.model("making", (number, &state), (0, &book.state()));
         self.makings(script, &lent);
         self.run_of_appends(script, &state, &lent);
         let original = Builder::with_capacity(dense, capacity);
@@ -58,8 +58,9 @@ impl<P: Port> Comparison<'_, P> {
         for (call, shortage) in &script.calls {
             match call {
                 Call::Len => {
-                    let answer = self.port.len(&all.state);
-                    self.tally.same("len", answer, (all.original.len(), all.book.state()));
+                    let (len, state) = self.port.len(&all.state);
+                    self.tally.original("len", len, all.original.len());
+                    self.tally.model("len: the state", state, all.book.state());
                 }
                 Call::Append { name, kind, word } => self.append(&mut all, call, (name, *kind, Some(*word)), *shortage),
                 Call::AppendNull { name, kind } => self.append(&mut all, call, (name, *kind, None), *shortage),
@@ -85,14 +86,14 @@ impl<P: Port> Comparison<'_, P> {
             state = after;
         }
         numbers.push(200);
-        self.tally.same("run of appends: numbers", &refusals, &numbers);
-        self.tally.same("run of appends: the state", answer, (0, state));
-        self.tally.same("run of appends: memory written and kept", run == single, true);
+        self.tally.port("run of appends: numbers", &refusals, &numbers);
+        self.tally.port("run of appends: the state", answer, (0, state));
+        self.tally.port("run of appends: memory written and kept", run == single, true);
         if !readings.is_empty() {
             let mut run = lent.clone();
             let answer = self.port.appends(fresh, &mut run, &readings, &mut refusals[1..readings.len()]);
-            self.tally.same("run of appends: 129", answer, Some((129, fresh.clone())));
-            self.tally.same("run of appends: 129, memory kept", (&run == lent, &refusals), (true, &numbers));
+            self.tally.port("run of appends: 129", answer, Some((129, fresh.clone())));
+            self.tally.port("run of appends: 129, memory kept", (&run == lent, &refusals), (true, &numbers));
         }
     }
 
@@ -101,20 +102,20 @@ impl<P: Port> Comparison<'_, P> {
         let (dense, capacity, limit) = (script.dense, script.capacity, script.limit);
         let few = short(lent, self.random.below(5) as u8, capacity, limit);
         let answer = self.port.with_capacity(dense, capacity, limit, &few);
-        self.tally.same("making: 16", answer, (16, State::default()));
+        self.tally.model("making: 16", answer, (16, State::default()));
         let usual = State { dense, capacity: 1024, limit, ..State::default() };
         if usual.refusal(lent) == 0 {
-            self.tally.same("new_dense, new_sparse", self.port.new(dense, limit, lent), (0, usual));
+            self.tally.model("new_dense, new_sparse", self.port.new(dense, limit, lent), (0, usual));
         } else {
             let answer = self.port.new(dense, limit, lent);
-            self.tally.same("new_dense, new_sparse: 16", answer, (16, State::default()));
+            self.tally.model("new_dense, new_sparse: 16", answer, (16, State::default()));
         }
         for k in [0, 129, usize::MAX] {
-            self.tally.same("new_dense, new_sparse: 15", self.port.new(dense, k, lent), (15, State::default()));
+            self.tally.model("new_dense, new_sparse: 15", self.port.new(dense, k, lent), (15, State::default()));
         }
         for (c, k) in [(0, limit), (65_537, limit), (usize::MAX, limit), (capacity, 0), (capacity, 129)] {
             let answer = self.port.with_capacity(dense, c, k, lent);
-            self.tally.same("making: 15", answer, (15, State::default()));
+            self.tally.model("making: 15", answer, (15, State::default()));
         }
     }
 
@@ -129,12 +130,12 @@ impl<P: Port> Comparison<'_, P> {
         let (port, tally) = (self.port, &mut self.tally);
         let refused = (15, Batch::empty(), state.clone());
         let answer = port.append(&state, &mut lent, b"a", Kind::Int8, Some(1));
-        tally.same("append: 15", (answer, lent == all.lent), ((15, state.clone()), true));
+        tally.model("append: 15", (answer, lent == all.lent), ((15, state.clone()), true));
         let answer = port.append(&state, &mut lent, b"a", Kind::Int8, None);
-        tally.same("append_null: 15", (answer, lent == all.lent), ((15, state.clone()), true));
-        tally.same("finish_cloned: 15", &port.finish_cloned(&state, &lent), &refused);
-        tally.same("finish: 15", &port.finish(&state, &lent), &refused);
-        tally.same("len asks none", port.len(&state), (state.len, state.clone()));
+        tally.model("append_null: 15", (answer, lent == all.lent), ((15, state.clone()), true));
+        tally.model("finish_cloned: 15", &port.finish_cloned(&state, &lent), &refused);
+        tally.model("finish: 15", &port.finish(&state, &lent), &refused);
+        tally.model("len asks none", port.len(&state), (state.len, state.clone()));
     }
 
     fn append(&mut self, all: &mut Building, call: &Call, what: (&[u8], Kind, Option<u64>), shortage: Option<u8>) {
@@ -150,14 +151,12 @@ impl<P: Port> Comparison<'_, P> {
         }
         let (answer, state) = self.port.append(&all.state, &mut lent, name, kind, word);
         self.tally.met(&format!("appends with {expected}"));
-        self.tally.same("append", answer, expected);
-        self.tally.same("append: the state", &state, &all.book.state());
-        self.tally.same("append: memory written and kept", &lent, &after);
+        self.tally.model("append: the state", &state, &all.book.state());
+        self.tally.model("append: memory written and kept", &lent, &after);
         all.state = state;
         match expected {
             0 => {
-                let original = original_append(&mut all.original, call);
-                self.tally.same("append: accepted by the original", original, 0);
+                self.tally.original("append", answer, original_append(&mut all.original, call));
                 all.lent = lent;
                 all.accepted.push(call.clone());
             }
@@ -167,10 +166,10 @@ impl<P: Port> Comparison<'_, P> {
                 for call in &all.accepted {
                     original_append(&mut other, call);
                 }
-                self.tally.same("append: 18 of the original", original_append(&mut other, call), 18);
+                self.tally.original("append: 18", answer, original_append(&mut other, call));
                 self.tally.known("kind-mismatch");
             }
-            _ => (),
+            _ => self.tally.model("append: refused", answer, expected),
         }
     }
 
@@ -180,24 +179,24 @@ impl<P: Port> Comparison<'_, P> {
         if let Some(part) = shortage {
             let few = short(&all.lent, part, script.capacity, script.limit);
             let answer = call(self.port, &all.state, &few);
-            self.tally.same("finish: 16", answer, (16, Batch::empty(), all.book.state()));
+            self.tally.model("finish: 16", answer, (16, Batch::empty(), all.book.state()));
             return;
         }
         let before = all.lent.clone();
         let (number, batch, state) = call(self.port, &all.state, &all.lent);
-        self.tally.same("finish: lent memory kept", all.lent == before, true);
+        self.tally.model("finish: lent memory kept", all.lent == before, true);
         let union = if ends { all.original.finish() } else { all.original.finish_cloned() };
-        self.tally.same("finish: description", (number, &batch), (0, &all.book.description()));
+        self.tally.model("finish: description", (number, &batch), (0, &all.book.description()));
         if ends {
             all.book = Book { capacity: script.capacity, limit: script.limit, ..Book::default() };
             all.mismatched = false;
             all.accepted.clear();
         }
-        self.tally.same("finish: the state", &state, &all.book.state());
+        self.tally.model("finish: the state", &state, &all.book.state());
         all.state = state;
         let case = Case { batch, lent: all.lent.clone() };
         let original = union.answer().and_then(|union| union.describe().answer());
-        self.tally.same("finish: contents", Some(case.laid_out()), original);
+        self.tally.original("finish: contents", Some(case.laid_out()), original);
         if self.random.one_in(4) {
             self.batch(&case);
             let slices = cases::slices(&mut self.random, case.batch.count);

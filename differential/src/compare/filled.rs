@@ -19,7 +19,7 @@ impl<P: Port> Comparison<'_, P> {
             1024 => self.port.new(dense, limit, &lent),
             _ => self.port.with_capacity(dense, capacity, limit, &lent),
         };
-        self.tally.same("fill: making", (number, &state), (0, &growth.state));
+        self.tally.model("fill: making", (number, &state), (0, &growth.state));
         let mut original = match (capacity, dense) {
             (1024, true) => Builder::new_dense(),
             (1024, false) => Builder::new_sparse(),
@@ -30,18 +30,20 @@ impl<P: Port> Comparison<'_, P> {
             let place = random.below(limit);
             let (name, kind) = (name(place), Kind::ALL[place % 10]);
             let word = (!random.one_in(5)).then(|| random.next());
-            let answer = self.port.append_in_place(&state, &mut lent, &name, kind, word);
+            let (number, after) = self.port.append_in_place(&state, &mut lent, &name, kind, word);
             growth.append(&name, kind, word);
-            self.tally.same("fill: append", (answer.0, &answer.1), (0, &growth.state));
-            state = answer.1;
+            self.tally.model("fill: append: the state", &after, &growth.state);
+            state = after;
             let call = match word {
                 Some(word) => Call::Append { name, kind, word },
                 None => Call::AppendNull { name, kind },
             };
-            self.tally.same("fill: accepted by the original", original_append(&mut original, &call), 0);
+            self.tally.original("fill: append", number, original_append(&mut original, &call));
             if slot % 5000 == 0 || slot + 1 == capacity {
-                self.tally.same("fill: memory written and kept", lent == growth.lent, true);
-                self.tally.same("fill: len", self.port.len(&state), (original.len(), growth.state.clone()));
+                self.tally.model("fill: memory written and kept", lent == growth.lent, true);
+                let (len, after) = self.port.len(&state);
+                self.tally.original("fill: len", len, original.len());
+                self.tally.model("fill: len: the state", &after, &growth.state);
             }
         }
         let known = growth.names[0].clone();
@@ -50,15 +52,15 @@ impl<P: Port> Comparison<'_, P> {
             .chain([(known, Kind::ALL[(growth.kinds[0] + 1) % 10], 18)])
         {
             let answer = self.port.append_in_place(&state, &mut lent, &name, kind, Some(1));
-            self.tally.same("fill: 18 and 19", answer, (number, growth.state.clone()));
+            self.tally.model("fill: 18 and 19", answer, (number, growth.state.clone()));
         }
         let (number, batch, state) = self.port.finish(&state, &lent);
-        self.tally.same("fill: memory kept", lent == growth.lent, true);
+        self.tally.model("fill: memory kept", lent == growth.lent, true);
         let emptied = State { dense: false, capacity, limit, ..State::default() };
-        self.tally.same("fill: finish", (number, &batch, &state), (0, &growth.description(), &emptied));
+        self.tally.model("fill: finish", (number, &batch, &state), (0, &growth.description(), &emptied));
         let case = Case { batch, lent };
         let contents = original.finish().answer().and_then(|union| union.describe().answer());
-        self.tally.same("fill: contents", Some(case.laid_out()) == contents, true);
+        self.tally.original("fill: contents", Some(case.laid_out()) == contents, true);
         self.batch(&case);
         let slices = cases::slices(&mut self.random, capacity);
         self.chain(&case, &slices);

@@ -3,6 +3,7 @@
 use super::{Comparison, GATHER_COSTS, Mask, Port, STRATEGIES};
 use crate::oracle::{self, Outcome, Union};
 use crate::plain::{Batch, Case};
+use crate::tally::Sort;
 
 impl<P: Port> Comparison<'_, P> {
     /// The null mask at each setting and at none, and each named strategy; `whole` is what `try_new` answers.
@@ -46,13 +47,15 @@ impl<P: Port> Comparison<'_, P> {
         let mut out = before.clone();
         let answer = call(self.port, &mut out[..lent]);
         let mut after = before.clone();
-        let mut mask = Mask::default();
+        let (mut mask, mut words) = (Mask::default(), Sort::Model);
+        let sort = if expected.is_some() { Sort::Original } else { Sort::Model };
         if let Some(nulls) = expected {
             mask = Mask { present: nulls.present, null_count: nulls.null_count, route: nulls.route };
             // Routes 1 to 6 write, present or not; of an absent mask only a named strategy of the original shows words.
             if nulls.present || what == "strategy" {
-                self.tally.same(&format!("{what}: length"), case.batch.count, nulls.length);
+                self.tally.alone(&format!("{what}: length"), nulls.length, case.batch.count);
                 after[..need].iter_mut().zip(&nulls.bits).for_each(|(word, bits)| *word = *bits);
+                words = Sort::Original;
                 if nulls.raw != nulls.bits {
                     self.tally.known("padding");
                 }
@@ -60,14 +63,14 @@ impl<P: Port> Comparison<'_, P> {
                 after[..need].copy_from_slice(&case.all_present());
             }
         }
-        self.tally.same(what, answer, (first, mask));
-        self.tally.same(&format!("{what}: words written and kept"), out, after);
+        self.tally.same(sort, what, answer, (first, mask));
+        self.tally.same(words, &format!("{what}: words written and kept"), out, after);
         if need > 0 {
             let mut few = before.clone();
             let answer = call(self.port, &mut few[..need - 1]);
             let first = if first == 0 { 13 } else { first };
-            self.tally.same(&format!("{what}: 13"), answer, (first, Mask::default()));
-            self.tally.same(&format!("{what}: 13, words kept"), few == before, true);
+            self.tally.model(&format!("{what}: 13"), answer, (first, Mask::default()));
+            self.tally.model(&format!("{what}: 13, words kept"), few == before, true);
         }
     }
 
@@ -79,15 +82,18 @@ impl<P: Port> Comparison<'_, P> {
             let (start, count) = (*start, *count);
             let (number, batch) = self.port.slice(&case.batch, &case.lent, start, count);
             let sliced = union.slice(start, count);
-            self.tally.same("slice", number, if sliced.is_answer() { 0 } else { 9 });
+            match sliced.is_answer() {
+                true => self.tally.original("slice", number, 0),
+                false => self.tally.model("slice: 9", number, 9),
+            }
             let expected = case.sliced(start, count).unwrap_or(Batch::empty());
-            self.tally.same("slice: description", &batch, &expected);
+            self.tally.model("slice: description", &batch, &expected);
             let Outcome::Answer(sliced) = sliced else { break };
             (case.batch, union) = (batch, sliced);
         }
-        self.tally.same("slice: try_new", self.port.try_new(&case.batch, &case.lent), 0);
+        self.tally.model("slice: try_new", self.port.try_new(&case.batch, &case.lent), 0);
         self.lookups(&case, &union);
         self.masks(&case, &union, 0);
-        self.tally.same("calls on a slice: lent memory kept", case.lent == before, true);
+        self.tally.model("calls on a slice: lent memory kept", case.lent == before, true);
     }
 }

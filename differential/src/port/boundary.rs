@@ -3,11 +3,11 @@
 use super::interface::*;
 use super::{array_to, builder_to};
 use crate::plain::{Batch, Growing, Kind, Lent, State, add_column, without_columns};
-use crate::tally::Tally;
+use crate::tally::{Tally, Totals};
 
-/// Numbers that name no layout, kind, flag or strategy are answered 128, which the original has no word for; numbers
-/// past the columns in use are not looked at. Answers how much was compared.
-pub fn boundary() -> u64 {
+/// Numbers that name no layout, kind, flag or strategy are answered 128, which the original has no word for, but by
+/// `len`, which asks none; numbers past the columns in use are not looked at. Answers how much was compared.
+pub fn boundary() -> Totals {
     let mut tally = Tally::default();
     let mut case = without_columns(&[0], None);
     add_column(&mut case, 0, Kind::Int8, b"a", &[None], true);
@@ -33,19 +33,19 @@ pub fn boundary() -> u64 {
     {
         let mut array = good;
         change(&mut array);
-        tally.same("numbers past the columns in use", call!(union_array_try_new(array; &case.lent)), 0);
+        tally.port("numbers past the columns in use", call!(union_array_try_new(array; &case.lent)), 0);
     }
     for strategy in [0, 1, 2, 7, 255] {
         let mut out = [9; 2];
         let answer = call!(union_strategy(good, strategy; &case.lent; out));
         let refused = CNulls { nulls: 0, refusal: 128, route: 0, present: 0 };
-        tally.same("a strategy's number", (answer, out), (refused, [9; 2]));
+        tally.port("a strategy's number", (answer, out), (refused, [9; 2]));
     }
     builder_128(&mut tally);
     if !tally.close("numbers of no case") {
         std::process::exit(1);
     }
-    tally.total()
+    tally.totals()
 }
 
 fn array_128(tally: &mut Tally, array: CArray, lent: &Lent) {
@@ -55,30 +55,30 @@ fn array_128(tally: &mut Tally, array: CArray, lent: &Lent) {
     let nulls = CNulls { nulls: 0, refusal: 128, route: 0, present: 0 };
     let value = CValue { bits: 0, name: [0; 32], size: 0, refusal: 128, id: 0, kind: 0, missing: 0 };
     let names = CTypeNames { names: [CNamePlace::default(); 128], count: 0, refusal: 128 };
-    tally.same("128: try_new", call!(union_array_try_new(array; lent)), 128);
-    tally.same("128: value", call!(union_array_value(array, 0; lent)), value);
-    tally.same("128: type_id", call!(union_array_type_id(array, 0; lent)), CTypeId { refusal: 128, id: 0 });
+    tally.port("128: try_new", call!(union_array_try_new(array; lent)), 128);
+    tally.port("128: value", call!(union_array_value(array, 0; lent)), value);
+    tally.port("128: type_id", call!(union_array_type_id(array, 0; lent)), CTypeId { refusal: 128, id: 0 });
     let offset = CValueOffset { offset: 0, refusal: 128 };
-    tally.same("128: value_offset", call!(union_array_value_offset(array, 0; lent)), offset);
+    tally.port("128: value_offset", call!(union_array_value_offset(array, 0; lent)), offset);
     let child = CChild { column: CColumn::default(), refusal: 128 };
-    tally.same("128: child", call!(union_array_child(array, 0; lent)), child);
-    tally.same("128: type_names", call!(union_array_type_names(array; lent)), names);
-    tally.same("128: is_dense", call!(union_array_is_dense(array; lent)), flag);
-    tally.same("128: is_nullable", call!(union_array_is_nullable(array; lent)), flag);
-    tally.same("128: type_ids", call!(union_array_type_ids(array; lent)), CPart { start: 0, count: 0, refusal: 128 });
+    tally.port("128: child", call!(union_array_child(array, 0; lent)), child);
+    tally.port("128: type_names", call!(union_array_type_names(array; lent)), names);
+    tally.port("128: is_dense", call!(union_array_is_dense(array; lent)), flag);
+    tally.port("128: is_nullable", call!(union_array_is_nullable(array; lent)), flag);
+    tally.port("128: type_ids", call!(union_array_type_ids(array; lent)), CPart { start: 0, count: 0, refusal: 128 });
     let slice = call!(union_array_slice(array, 0, 1; lent));
-    tally.same("128: slice", slice, CSlice { array: empty, refusal: 128 });
-    tally.same("128: null mask", call!(union_logical_nulls(array, 10; lent; out)), nulls);
-    tally.same("128: strategy", call!(union_strategy(array, 3; lent; out)), nulls);
-    tally.same("128: words kept", out, [9; 2]);
+    tally.port("128: slice", slice, CSlice { array: empty, refusal: 128 });
+    tally.port("128: null mask", call!(union_logical_nulls(array, 10; lent; out)), nulls);
+    tally.port("128: strategy", call!(union_strategy(array, 3; lent; out)), nulls);
+    tally.port("128: words kept", out, [9; 2]);
 }
 
 fn builder_128(tally: &mut Tally) {
     let mut lent =
         Lent { type_ids: vec![7; 4], offsets: vec![7; 4], values: vec![7; 8], masks: vec![7; 2], names: vec![7; 64] };
     let before = lent.clone();
-    let column = Growing { kind: Kind::Int8, size: 1, slots: 0, masked: false };
-    let good = builder_to(&State { dense: true, capacity: 4, limit: 2, len: 0, columns: vec![column] });
+    let column = Growing { kind: Kind::Int8, size: 1, slots: 3, masked: false };
+    let good = builder_to(&State { dense: true, capacity: 4, limit: 2, len: 3, columns: vec![column] });
     let spoiled = |change: &dyn Fn(&mut CBuilder)| {
         let mut builder = good;
         change(&mut builder);
@@ -94,20 +94,20 @@ fn builder_128(tally: &mut Tally) {
         let built = CBuilt { builder, refusal: 128 };
         let finished = CFinished { builder, array: empty, refusal: 128 };
         let append = call_writing!(union_builder_append(builder, b"a".as_ptr(), 1, 0, 1; &mut lent));
-        tally.same("128: append", append, built);
+        tally.port("128: append", append, built);
         let append = call_writing!(union_builder_append_null(builder, b"a".as_ptr(), 1, 0; &mut lent));
-        tally.same("128: append_null", append, built);
-        tally.same("128: finish_cloned", call!(union_builder_finish_cloned(builder; &lent)), finished);
-        tally.same("128: finish", call!(union_builder_finish(builder; &lent)), finished);
+        tally.port("128: append_null", append, built);
+        tally.port("128: finish_cloned", call!(union_builder_finish_cloned(builder; &lent)), finished);
+        tally.port("128: finish", call!(union_builder_finish(builder; &lent)), finished);
         // SAFETY: no memory is lent.
         let length = unsafe { union_builder_len(builder) };
-        tally.same("128: len", length, CLength { builder, len: 0, refusal: 128 });
+        tally.port("len asks none", length, CLength { builder, len: builder.len });
     }
     for kind in [10, 255] {
         let append = call_writing!(union_builder_append(good, b"a".as_ptr(), 1, kind, 1; &mut lent));
-        tally.same("128: append of no kind", append, CBuilt { builder: good, refusal: 128 });
+        tally.port("128: append of no kind", append, CBuilt { builder: good, refusal: 128 });
         let append = call_writing!(union_builder_append_null(good, b"a".as_ptr(), 1, kind; &mut lent));
-        tally.same("128: append_null of no kind", append, CBuilt { builder: good, refusal: 128 });
+        tally.port("128: append_null of no kind", append, CBuilt { builder: good, refusal: 128 });
     }
-    tally.same("128: lent memory kept", lent, before);
+    tally.port("128: lent memory kept", lent, before);
 }

@@ -138,7 +138,6 @@ pub struct CBuilt {
 pub struct CLength {
     pub builder: CBuilder,
     pub len: usize,
-    pub refusal: u8,
 }
 
 #[repr(C)]
