@@ -1,8 +1,8 @@
-//! Lookups and slices.
+//! Lookups, checks and slices.
 
 use crate::builders::{filled, unions};
 use crate::clock::{Measure, timed};
-use crate::inputs::Readings;
+use crate::inputs::{self, Nulls, Order, Readings};
 use crate::interface::CArray;
 use crate::plain::Lent;
 use crate::ported::Slots;
@@ -72,6 +72,30 @@ pub fn value(measure: &mut Measure, report: &mut Report, seed: u64) {
             table.line_beside(&[layout(dense), &fields.to_string()], rust, &[read], &[run, single]);
             report.bar("value, one call for the run", &line, rust / run);
             report.bar("value, a call each", &line, rust / single);
+        }
+    }
+    report.table(table);
+}
+
+pub fn try_new(measure: &mut Measure, report: &mut Report, seed: u64) {
+    let mut table = Table::new(
+        "try_new",
+        &format!("Nanoseconds a slot, a union of {SLOTS} slots, every column with nulls: questions 1 to 8."),
+        &["layout", "fields", "Rust", "port", "ratio"],
+    );
+    for dense in [true, false] {
+        for fields in [4, 16, 64] {
+            let union = inputs::union(dense, fields, SLOTS, |_| Nulls::Some, Order::Random, seed);
+            let parts = original::parts(&union);
+            assert_eq!(ported::try_new(&union.array, &union.lent), 0, "an accepted union");
+            let mut rust = || {
+                let parts = parts.clone();
+                timed(SLOTS, || original::try_new(parts)).0
+            };
+            let mut port = || timed(SLOTS, || ported::try_new(&union.array, &union.lent)).0;
+            let [rust, port] = measure.least([&mut rust, &mut port]);
+            table.line(&[layout(dense), &fields.to_string()], rust, &[port]);
+            report.bar("try_new", &format!("{}, {fields} fields", layout(dense)), rust / port);
         }
     }
     report.table(table);

@@ -95,16 +95,34 @@ pub enum Nulls {
     All,
 }
 
+/// How the slots of a union choose their columns: at random, or all slots of a column after each other.
+#[derive(Clone, Copy, PartialEq, Eq)]
+pub enum Order {
+    Random,
+    Runs,
+}
+
 /// A union as the port takes it.
 pub struct Described {
     pub array: CArray,
     pub lent: Lent,
 }
 
-/// A union of Float64 columns whose slots choose their columns at random; `nulls` tells column k's nulls.
-pub fn union(dense: bool, fields: usize, count: usize, nulls: impl Fn(usize) -> Nulls, seed: u64) -> Described {
+/// A union of Float64 columns; `nulls` tells column k's nulls.
+pub fn union(
+    dense: bool,
+    fields: usize,
+    count: usize,
+    nulls: impl Fn(usize) -> Nulls,
+    order: Order,
+    seed: u64,
+) -> Described {
     let mut random = Random(seed);
-    let type_ids: Vec<i8> = (0..count).map(|_| random.below(fields as u64) as i8).collect();
+    let drawn: Vec<i8> = (0..count).map(|_| random.below(fields as u64) as i8).collect();
+    let type_ids = match order {
+        Order::Random => drawn,
+        Order::Runs => (0..count).map(|i| (i * fields / count) as i8).collect(),
+    };
     let mut slots = vec![0; fields];
     let mut offsets = Vec::new();
     if dense {

@@ -1,5 +1,8 @@
 //! The original beside the port, timed on the same work.
-//!   bench [--write] [--only WORD] [--seconds S] [--seed N] --root DIR --rustc VERSION
+//!   bench --into FILE --processor CPU --triple TRIPLE --features WORDS [--only WORD] [--seconds S] [--seed N]
+//! measures beside the build of the original that this program has.
+//!   bench --root DIR --rustc VERSION --port WORDS [--skipped WORDS] [--write] --page FILE..
+//! makes the page of what was measured.
 
 mod arrays;
 mod builders;
@@ -12,6 +15,7 @@ mod passing;
 mod picture;
 mod ported;
 mod report;
+mod results;
 
 #[allow(dead_code)]
 #[path = "../../differential/src/port/interface.rs"]
@@ -23,28 +27,34 @@ mod plain;
 
 use clock::Measure;
 use report::Report;
+use results::{Build, GATHER_COST, Results};
 
 pub fn layout(dense: bool) -> &'static str {
     if dense { "dense" } else { "sparse" }
 }
 
-fn word(name: &str) -> Option<String> {
+/// The argument after the one with this name.
+pub fn word(name: &str) -> Option<String> {
     std::env::args().skip_while(|argument| argument != name).nth(1)
 }
 
 type Part = (&'static str, fn(&mut Measure, &mut Report, u64));
 
-const PARTS: [Part; 6] = [
+const PARTS: [Part; 9] = [
     ("append", builders::append),
     ("value", arrays::value),
     ("finish_cloned", builders::finish_cloned),
     ("slice", arrays::slice),
     ("passing", passing::passing),
-    ("masks", masks::masks),
+    ("try_new", arrays::try_new),
+    ("logical_nulls", masks::logical_nulls),
+    ("logical_nulls in runs", masks::logical_nulls_in_runs),
+    ("strategies", masks::strategies),
 ];
 
-fn main() {
+fn measured() -> Results {
     clock::keep_freed_memory();
+    arrow_array::setting::set_gather_cost(GATHER_COST);
     let seed = word("--seed").map_or(1, |seed| seed.parse().expect("a number"));
     let seconds = word("--seconds").map_or(1.0, |seconds| seconds.parse().expect("a number"));
     let only = word("--only").unwrap_or_default();
@@ -55,9 +65,22 @@ fn main() {
             part(&mut measure, &mut report, seed);
         }
     }
-    let text = page::text(&report, &measure, seed, &word("--rustc").unwrap_or_default());
+    let [processor, triple, features] =
+        ["--processor", "--triple", "--features"].map(|name| word(name).unwrap_or_default());
+    let build = Build { processor, triple, features, cost: GATHER_COST };
+    Results { build, seed, fewest: measure.fewest, apart: measure.apart, report }
+}
+
+fn main() {
+    if let Some(path) = word("--into") {
+        return measured().write(&path);
+    }
+    let all: Vec<Results> =
+        std::env::args().skip_while(|argument| argument != "--page").skip(1).map(|path| Results::read(&path)).collect();
+    let report = results::together(&all);
+    let text = page::text(&all, &report);
     if std::env::args().any(|argument| argument == "--write") {
-        page::write(&word("--root").expect("--root DIR"), &text, &picture::svg(&report.bars));
+        page::write(&word("--root").expect("--root DIR"), &text, &picture::svg(&report.bars, &all));
     }
     println!("{text}");
 }

@@ -1,14 +1,17 @@
-//! The ratios as a picture: a bar to each, from the line at 1, on a logarithmic scale.
+//! The ratios as a picture: a bar to each, from the line at 1, on a logarithmic scale; the builds' bars under each other.
 
 use crate::report::{Bar, ratio};
+use crate::results::Results;
 use std::fmt::Write;
 
 const WIDTH: f64 = 880.0;
 /// Where the scale begins and ends.
 const LEFT: f64 = 250.0;
 const RIGHT: f64 = WIDTH - 60.0;
-const TOP: f64 = 84.0;
-const LINE: f64 = 18.0;
+const TOP: f64 = 104.0;
+/// The height of a bar with the space below it, and the space below a line's last bar.
+const STEP: f64 = 10.0;
+const SPACE: f64 = 5.0;
 const GROUP: f64 = 34.0;
 
 /// Colours for a light page, and for a dark one.
@@ -17,6 +20,7 @@ text { font: 12px system-ui, -apple-system, 'Segoe UI', 'DejaVu Sans', sans-seri
   paint-order: stroke; stroke: #ffffff; stroke-width: 4px; stroke-linejoin: round }
 .title { font-size: 17px; font-weight: 600 }
 .group { font-weight: 600 }
+.number { font-size: 9.5px; fill: #59636e }
 .faint { fill: #59636e }
 .ahead { fill: #2f6fd0 }
 .behind { fill: #cf7a1f }
@@ -25,7 +29,7 @@ text { font: 12px system-ui, -apple-system, 'Segoe UI', 'DejaVu Sans', sans-seri
 .page { fill: #ffffff }
 @media (prefers-color-scheme: dark) {
 text { fill: #f0f6fc; stroke: #0d1117 }
-.faint { fill: #9198a1 }
+.faint, .number { fill: #9198a1 }
 .ahead { fill: #5b9bf8 }
 .behind { fill: #e3963e }
 .grid { stroke: #3d444d }
@@ -47,8 +51,8 @@ struct Scale {
 
 impl Scale {
     fn of(bars: &[Bar]) -> Self {
-        let least = bars.iter().map(|bar| bar.ratio).fold(0.5, f64::min);
-        let most = bars.iter().map(|bar| bar.ratio).fold(2.0, f64::max);
+        let ratios = || bars.iter().flat_map(|bar| bar.ratios.iter().copied());
+        let (least, most) = (ratios().fold(0.5, f64::min), ratios().fold(2.0, f64::max));
         // Room for the number beside the shortest bar.
         let low = ticks().filter(|tick| *tick <= 0.7 * least).fold(1e-4, f64::max);
         let high = ticks().filter(|tick| *tick >= most).fold(1e6, f64::min);
@@ -76,29 +80,40 @@ fn grid(svg: &mut String, scale: &Scale, bottom: f64) {
     }
 }
 
-fn bar(svg: &mut String, scale: &Scale, y: f64, bar: &Bar) {
-    let (one, end) = (scale.x(1.0), scale.x(bar.ratio));
-    let (class, anchor, beside) = if bar.ratio < 1.0 { ("behind", "end", -5.0) } else { ("ahead", "start", 5.0) };
+/// One build's bar; `number` is the build's place.
+fn bar(svg: &mut String, scale: &Scale, y: f64, number: usize, of: f64) {
+    let (one, end) = (scale.x(1.0), scale.x(of));
+    let (class, anchor, beside) = if of < 1.0 { ("behind", "end", -5.0) } else { ("ahead", "start", 5.0) };
     let (x, width) = (one.min(end), (end - one).abs().max(1.0));
-    text(svg, "", "end", LEFT - 12.0, y + 4.0, &bar.label);
-    let (y_bar, height) = (y - 5.5, 11.0);
+    let opacity = if number == 0 { 1.0 } else { 0.6 };
+    let (y_bar, height) = (y - 4.0, 8.0);
     writeln!(
         svg,
-        "<rect class=\"{class}\" x=\"{x:.1}\" y=\"{y_bar:.1}\" width=\"{width:.1}\" height=\"{height}\" rx=\"1.5\"/>"
+        "<rect class=\"{class}\" opacity=\"{opacity}\" x=\"{x:.1}\" y=\"{y_bar:.1}\" width=\"{width:.1}\" height=\"{height}\" rx=\"1.5\"/>"
     )
     .unwrap();
-    text(svg, "faint", anchor, end + beside, y + 4.0, &ratio(bar.ratio));
+    text(svg, "number", anchor, end + beside, y + 3.5, &ratio(of));
 }
 
-pub fn svg(bars: &[Bar]) -> String {
+/// A label and its bars, the first build's on top.
+fn line(svg: &mut String, scale: &Scale, y: f64, line: &Bar) {
+    let middle = y + STEP * line.ratios.len() as f64 / 2.0;
+    text(svg, "", "end", LEFT - 12.0, middle + 3.0, &line.label);
+    for (number, of) in line.ratios.iter().enumerate() {
+        bar(svg, scale, y + STEP * (number as f64 + 0.5), number, *of);
+    }
+}
+
+pub fn svg(bars: &[Bar], all: &[Results]) -> String {
     let scale = Scale::of(bars);
     let mut groups: Vec<&str> = Vec::new();
     bars.iter().for_each(|bar| {
-        if !groups.contains(&bar.group) {
-            groups.push(bar.group)
+        if !groups.contains(&bar.group.as_str()) {
+            groups.push(&bar.group)
         }
     });
-    let bottom = TOP + GROUP * groups.len() as f64 + LINE * bars.len() as f64 + 8.0;
+    let step = STEP * all.len() as f64 + SPACE;
+    let bottom = TOP + GROUP * groups.len() as f64 + step * bars.len() as f64 + 8.0;
     let height = bottom + 30.0;
     let mut svg = format!(
         "<svg xmlns=\"http://www.w3.org/2000/svg\" width=\"{WIDTH}\" height=\"{height}\" viewBox=\"0 0 {WIDTH} {height}\" \
@@ -106,16 +121,28 @@ pub fn svg(bars: &[Bar]) -> String {
     );
     writeln!(svg, "<rect class=\"page\" width=\"{WIDTH}\" height=\"{height}\"/>").unwrap();
     text(&mut svg, "title", "start", 20.0, 30.0, "How many times as fast as the Rust the port is");
-    text(&mut svg, "faint", "end", scale.x(1.0) - 10.0, 56.0, "the Rust ahead");
-    text(&mut svg, "faint", "start", scale.x(1.0) + 10.0, 56.0, "the port ahead");
+    let builds: Vec<String> = all
+        .iter()
+        .map(|Results { build, .. }| format!("{} (logical_nulls at setting {})", build.processor, build.cost))
+        .collect();
+    text(
+        &mut svg,
+        "faint",
+        "start",
+        20.0,
+        50.0,
+        &format!("The Rust built for, from the upper bar on: {}", builds.join(", ")),
+    );
+    text(&mut svg, "faint", "end", scale.x(1.0) - 10.0, 76.0, "the Rust ahead");
+    text(&mut svg, "faint", "start", scale.x(1.0) + 10.0, 76.0, "the port ahead");
     grid(&mut svg, &scale, bottom);
     let mut y = TOP;
     for group in groups {
         y += GROUP;
         text(&mut svg, "group", "start", 20.0, y - 11.0, group);
         for one in bars.iter().filter(|bar| bar.group == group) {
-            bar(&mut svg, &scale, y + LINE / 2.0 - 4.0, one);
-            y += LINE;
+            line(&mut svg, &scale, y, one);
+            y += step;
         }
     }
     svg + "</svg>\n"

@@ -47,6 +47,10 @@ pub fn finish_cloned(builder: CBuilder, lent: &Lent) -> CFinished {
     call!(union_builder_finish_cloned(builder; lent))
 }
 
+pub fn try_new(array: &CArray, lent: &Lent) -> u8 {
+    call!(union_array_try_new(*array; lent))
+}
+
 pub fn value(array: &CArray, i: usize, lent: &Lent) -> CValue {
     call!(union_array_value(*array, i; lent))
 }
@@ -76,4 +80,9 @@ pub fn values(array: &CArray, first: usize, n: usize, lent: &Lent, out: &mut Slo
 /// The null mask by the strategy with this route's number.
 pub fn strategy(array: &CArray, route: u8, lent: &Lent, out: &mut [u64]) -> CNulls {
     call!(union_strategy(*array, route; lent; out))
+}
+
+/// The null mask at a gather cost.
+pub fn logical_nulls(array: &CArray, cost: usize, lent: &Lent, out: &mut [u64]) -> CNulls {
+    call!(union_logical_nulls(*array, cost; lent; out))
 }

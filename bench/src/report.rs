@@ -1,9 +1,11 @@
-//! What was measured, as tables in Markdown.
+//! What was measured: tables of times and ratios, and the bars of the picture.
 
-/// A table of times and ratios.
+/// A table: what it tells, the heads of its columns, its lines.
 pub struct Table {
     pub title: String,
-    text: String,
+    pub note: String,
+    pub head: Vec<String>,
+    pub lines: Vec<Vec<String>>,
 }
 
 fn grouped(number: u64) -> String {
@@ -28,18 +30,18 @@ pub fn ratio(ratio: f64) -> String {
     }
 }
 
+pub fn owned(words: &[&str]) -> Vec<String> {
+    words.iter().map(|word| (*word).to_owned()).collect()
+}
+
 impl Table {
     pub fn new(title: &str, note: &str, head: &[&str]) -> Self {
-        let rule = vec!["---"; head.len()].join("|");
-        let text = format!("{note}\n\n| {} |\n|{rule}|\n", head.join(" | "));
-        Table { title: title.to_owned(), text }
+        Table { title: title.to_owned(), note: note.to_owned(), head: owned(head), lines: Vec::new() }
     }
 
-    fn cells(&mut self, cells: &[String]) {
-        let line = format!("| {} |", cells.join(" | "));
-        eprintln!("{}: {line}", self.title);
-        self.text += &line;
-        self.text.push('\n');
+    fn cells(&mut self, cells: Vec<String>) {
+        eprintln!("{}: | {} |", self.title, cells.join(" | "));
+        self.lines.push(cells);
     }
 
     /// A line: what was measured, the original's time, and the port's times, each with its ratio.
@@ -49,34 +51,42 @@ impl Table {
 
     /// A line with further times of the original, to which there is no ratio.
     pub fn line_beside(&mut self, what: &[&str], original: f64, beside: &[f64], port: &[f64]) {
-        let mut cells: Vec<String> = what.iter().map(|cell| (*cell).to_owned()).collect();
+        let mut cells = owned(what);
         cells.push(nanoseconds(original));
         cells.extend(beside.iter().map(|time| nanoseconds(*time)));
         for time in port {
             cells.extend([nanoseconds(*time), format!("**{}**", ratio(original / time))]);
         }
-        self.cells(&cells)
+        self.cells(cells)
     }
 
     /// A line with a size in bytes and a time, and no ratio.
     pub fn time(&mut self, what: &str, bytes: usize, time: f64) {
-        self.cells(&[what.to_owned(), grouped(bytes as u64), nanoseconds(time)])
+        self.cells(vec![what.to_owned(), grouped(bytes as u64), nanoseconds(time)])
     }
 
     /// A null mask's line: two times of the original, and the port's with a ratio to each.
-    pub fn mask_line(&mut self, what: &[&str], checked: f64, alone: f64, port: f64) {
-        let mut cells: Vec<String> = what.iter().map(|cell| (*cell).to_owned()).collect();
+    pub fn mask_line(&mut self, what: &[&str], [checked, alone, port]: [f64; 3]) {
+        let mut cells = owned(what);
         cells.extend([checked, alone, port].map(nanoseconds));
         cells.extend([checked, alone].map(|time| format!("**{}**", ratio(time / port))));
-        self.cells(&cells)
+        self.cells(cells)
+    }
+
+    /// The table in Markdown, with a heading.
+    pub fn markdown(&self) -> String {
+        let line = |cells: &[String]| format!("| {} |\n", cells.join(" | "));
+        let rule = vec!["---"; self.head.len()].join("|");
+        let lines: String = self.lines.iter().map(|cells| line(cells)).collect();
+        format!("### {}\n\n{}\n\n{}|{rule}|\n{lines}\n", self.title, self.note, line(&self.head))
     }
 }
 
-/// A bar of the picture.
+/// A place of the picture: a ratio for each build of the original.
 pub struct Bar {
-    pub group: &'static str,
+    pub group: String,
     pub label: String,
-    pub ratio: f64,
+    pub ratios: Vec<f64>,
 }
 
 /// All tables and bars, in order.
@@ -91,12 +101,7 @@ impl Report {
         self.tables.push(table)
     }
 
-    pub fn bar(&mut self, group: &'static str, label: &str, ratio: f64) {
-        self.bars.push(Bar { group, label: label.to_owned(), ratio })
-    }
-
-    /// The tables in Markdown, each with a heading.
-    pub fn markdown(&self) -> String {
-        self.tables.iter().map(|table| format!("### {}\n\n{}\n", table.title, table.text)).collect()
+    pub fn bar(&mut self, group: &str, label: &str, ratio: f64) {
+        self.bars.push(Bar { group: group.to_owned(), label: label.to_owned(), ratios: vec![ratio] })
     }
 }
