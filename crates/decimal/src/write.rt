@@ -73,7 +73,7 @@ pub fn write_integer(bits: u64, highest: u64, out: &mut [u8]) -> usize
 }
 
 // Puts 0x and the last `count` hexadecimal digits at the start of `out` and keeps the bytes after them; answers their length.
-pub(crate) fn write_hex(bits: u64, count: usize, out: &mut [u8]) -> usize
+pub fn write_hex(bits: u64, count: usize, out: &mut [u8]) -> usize
     requires { ⌜ 2 + count ≤ length (now out) ⌝ }
     ensures { λ r. ⌜ record { size = r; bytes = now (out .exit) } ≡ output (hexText bits count) (now (out .entry)) ⌝ }
 {
@@ -85,7 +85,7 @@ pub(crate) fn write_hex(bits: u64, count: usize, out: &mut [u8]) -> usize
 
 // Puts n / power in from place `at` on, with k digits after the point, if there are any; answers where it ends. Promised is only that this is
 // at most 37: the caller reads the text back.
-pub(crate) fn write_fixed(n: u64, k: usize, power: u64, at: usize, out: &mut [u8]) -> usize
+pub fn write_fixed(n: u64, k: usize, power: u64, at: usize, out: &mut [u8]) -> usize
     requires { ⌜ (k ≤ 15) × (0 < power) × (at ≤ 1) × (37 ≤ length (now out)) ⌝ }
     ensures { λ r. ⌜ r ≤ 37 ⌝ }
 {
