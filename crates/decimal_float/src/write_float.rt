@@ -90,6 +90,22 @@ fn write_sign(bits: u64, f: Format, out: &mut [u8]) -> usize
     0
 }
 
+// Puts n / power in from place `at` on, with k digits after the point, if there are any; answers where it ends. Promised is only that this is
+// at most 37: the caller reads the text back.
+fn write_fixed(n: u64, k: usize, power: u64, at: usize, out: &mut [u8]) -> usize
+    requires { ⌜ (k ≤ 15) × (0 < power) × (at ≤ 1) × (37 ≤ length (now out)) ⌝ }
+    ensures { λ r. ⌜ r ≤ 37 ⌝ }
+{
+    let end = write::write_from(n / power, at, out);
+    if k == 0 {
+        return end;
+    }
+    out[end] = b'.';
+    let first = end + 1;
+    write::spell(n % power, 10, first, k, out);
+    first + k
+}
+
 // Puts m / 10^k in, with the sign of the bits, and answers its length if it reads as the bits, else 0.
 fn candidate(m: u64, k: usize, bits: u64, f: Format, out: &mut [u8]) -> usize
     requires { ⌜ (k ≤ 15) × (37 ≤ length (now out)) ⌝ }
@@ -97,7 +113,7 @@ fn candidate(m: u64, k: usize, bits: u64, f: Format, out: &mut [u8]) -> usize
 {
     let power = float::power_of_ten(k);
     let at = write_sign(bits, f, out);
-    let end = write::write_fixed(m, k, power, at, out);
+    let end = write_fixed(m, k, power, at, out);
     if reads_as(&out[..end], bits, f) {
         return end;
     }

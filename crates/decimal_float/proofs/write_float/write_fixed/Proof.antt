@@ -1,10 +1,10 @@
 use native.Mathlib.Omega.{arith}
 use mathlib.Core.Path.{_∙_}
 use lib.ListN.{length-set}
 use Rattle.decimal.proofs.NumeralLaws.{numeral-end}
 use borrow.Author.Needs.{needs}
-use Rattle.decimal.proofs.write.write_fixed.Statement.{statement}
-use Rattle.decimal.proofs.write.write_fixed.Tie as tie
+use Rattle.decimal_float.proofs.write_float.write_fixed.Statement.{statement}
+use Rattle.decimal_float.proofs.write_float.write_fixed.Tie as tie
 
 div-write-from : tie.Need-div-write-from
 div-write-from c = search needs
