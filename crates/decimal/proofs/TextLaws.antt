@@ -1,26 +1,19 @@
--- Laws of numbers as text: a digit put in a turn, what is in a buffer, and that a text reads back.
+-- Laws of numbers as text: a digit put in a turn, that digits read back, and what is in a buffer.
 use mathlib.Core.Path.{_≡_, refl, sym, ap, _∙_, subst}
 use mathlib.Core.Bool.{Bool, true, false, cond}
 use mathlib.Core.List.{List, [], _∷_, _++_, append-assoc}
 use Prim.Native.Nat.{ℕ, zero, suc, _+_, _-_, _*_, _/_, _%_, _^_, _<_, _≤_}
 use native.Mathlib.Nat.{le-trans, lt-of-not-le, pow-zero, pow-suc, div-add-mod, mod-lt, div-le-self, div-lt-iff-lt-mul, add-zero, add-suc}
 use native.Mathlib.Omega.{arith}
-use lib.Dec.{leb, ltb, eqb}
+use lib.Dec.{leb, ltb}
 use lib.ListN.{length, take, drop, set, length-set, length-append, take-append-drop}
 use lib.Seq.{drop-cons, drop-drop, drop-append-add, take-set-le, drop-set-lt, getD-set-same, take-at}
-use borrow.Author.Tests.{lt-ltb, le-ltb, le-leb, lt-leb, eqb-true}
-use Rattle.decimal.specs.declared.Bits.{Bits}
+use borrow.Author.Tests.{lt-ltb, le-ltb, le-leb, lt-leb}
 use Rattle.decimal.specs.declared.Bits.the-variants.{Of}
-use Rattle.decimal.specs.declared.Format.{Format}
-use Rattle.decimal.specs.declared.Format.the-variants.{Binary32, Binary64}
 use Rattle.decimal.specs.Digits.{digitOf, numberOf}
-use Rattle.decimal.specs.Integers.{isHex}
-use Rattle.decimal.specs.Floats.{signWeight, hexDigits, floatOf}
 use Rattle.decimal.specs.Text.{glyphOf, lastDigits, naturalText, integerText, Output, output}
 use Rattle.decimal.specs.Written.{hexText, putAt}
 use Rattle.decimal.proofs.DigitLaws.{digit-1, digit-3, number-then, number-digit, number-none}
-use Rattle.decimal.proofs.IntegerLaws.{tail-is, hex-second, hex-digits}
-use Rattle.decimal.proofs.FloatLaws.{float-hex}
 use Rattle.decimal.proofs.NumeralLaws.{digits-length, numeral-last, numeral-few}
 
 -- ---- digits put in from the last to the first: the whole, with `left` digits to go
@@ -46,7 +39,7 @@ pub whole-end : (base at rest : ℕ) (out : List ℕ) → Whole base at 0 rest o
 unfolding lastDigits
 whole-end base at rest out = ap (λ (x : ℕ). take at out ++ drop x out) (add-zero at) ∙ take-append-drop at out
 
--- ---- a text reads back
+-- ---- digits read back
 
 glyph-back : (d : ℕ) → d < 16 → digitOf (glyphOf d) ≡ d
 glyph-back d h = go (ltb d 10) (lt-ltb d 10) (le-ltb d 10)
@@ -111,9 +104,6 @@ glyph-low d h = rw (lt-ltb d 10 h)
 pub glyph-high : (d : ℕ) → 10 ≤ d → 87 + d ≡ glyphOf d
 glyph-high d h = rw (le-ltb d 10 h)
 
-pub reads : (f : Format) (text : List ℕ) (b : Bits) (n bits : ℕ) → b ≡ floatOf f text → b ≡ Of n → eqb n bits ≡ true → floatOf f text ≡ Of bits
-reads f text b n bits p q e = sym p ∙ q ∙ ap Of (eqb-true n bits e)
-
 -- ---- what is in a buffer
 
 -- the digits of a number
@@ -168,7 +158,7 @@ hex-out bits count was now h w =
     output-after (48 ∷ (120 ∷ [])) (lastDigits 16 count bits) was (set (set was 0 48) 1 120) now (2 + count) (two-set 48 120 was h) (ap (λ (k : ℕ). 2 + k) (sym (digits-length 16 count bits))) w
 
 -- so many bytes at the start are the text
-output-text : (text was now : List ℕ) (r : ℕ) → record { size = r; bytes = now } ≡ output text was → take r now ≡ text
+pub output-text : (text was now : List ℕ) (r : ℕ) → record { size = r; bytes = now } ≡ output text was → take r now ≡ text
 output-text text was now r e =
     ap (λ (o : Output). take (o .size) (o .bytes)) e ∙ take-at text (drop (length text) was) (length text) refl
 
@@ -183,56 +173,3 @@ integer-size bits highest was now r e = let s : r ≡ length (integerText bits h
     go : (t : Bool) → length (cond t (naturalText bits) (45 ∷ naturalText (2 * highest + 2 - bits))) ≤ 21
     go true = omega (arith, numeral-few bits)
     go false = omega (arith, numeral-few (2 * highest + 2 - bits))
-
--- ---- a float's bits in hexadecimal read back
-
-hex-holds : (f : Format) (bits : ℕ) → bits < 2 * signWeight f → (bits < 16 ^ hexDigits f) × (bits ≤ 2 ^ 64 - 1)
-hex-holds Binary32 bits h = (h, omega arith)
-hex-holds Binary64 bits h = (h, omega arith)
-
-pub hex-small : (f : Format) → hexDigits f ≤ 16
-hex-small Binary32 = omega arith
-hex-small Binary64 = omega arith
-
-module _ (f : Format) (bits : ℕ) (h : bits < 2 * signWeight f) where
-  told : List ℕ
-  told = hexText bits (hexDigits f)
-
-  long : 2 ≤ length told
-  unfolding told hexText
-  long = at-least (length (lastDigits 16 (hexDigits f) bits))
-    where
-      at-least : (n : ℕ) → 2 ≤ suc (suc n)
-      at-least n = omega arith
-
-  begins : true ≡ isHex told
-  unfolding told hexText
-  begins = hex-second told long refl
-
-  sized : length told - 2 ≡ hexDigits f
-  unfolding told hexText
-  sized = less (length (lastDigits 16 (hexDigits f) bits)) ∙ digits-length 16 (hexDigits f) bits
-    where
-      less : (n : ℕ) → suc (suc n) - 2 ≡ n
-      less n = omega arith
-
-  tail : drop 2 told ≡ lastDigits 16 (hexDigits f) bits
-  unfolding told hexText
-  tail = refl
-
-  told-back : floatOf f told ≡ Of bits
-  told-back =
-      sym (float-hex f told true (λ z. let g = long in omega arith) begins refl)
-      ∙ sym (hex-digits told (hexDigits f) true begins refl sized)
-      ∙ ap (λ (x : List ℕ). numberOf 16 0 x (2 ^ 64 - 1)) (tail-is told 2 ∙ tail)
-      ∙ digits-back 16 (hexDigits f) bits (2 ^ 64 - 1) (omega arith) (omega arith) (hex-holds f bits h .0) (hex-holds f bits h .1)
-
-  pub hex-back : (count : ℕ) (was now : List ℕ) (r : ℕ) → count ≡ hexDigits f → record { size = r; bytes = now } ≡ output (hexText bits count) was → (r ≤ 37) × (floatOf f (take r now) ≡ Of bits)
-  unfolding told hexText
-  hex-back count was now r c e =
-      let s : r ≡ 2 + count = ap (λ (o : Output). o .size) e ∙ size (lastDigits 16 count bits) (digits-length 16 count bits) in
-      let l = hex-small f in
-      (omega arith, ap (floatOf f) (output-text (hexText bits count) was now r e ∙ ap (hexText bits) c) ∙ told-back)
-    where
-      size : (xs : List ℕ) → length xs ≡ count → suc (suc (length xs)) ≡ 2 + count
-      size xs z = omega arith

@@ -30,7 +30,7 @@ pub(crate) fn digit(b: u8) -> u64
 }
 
 // The number `start` with the digits of `text` after it, if they are digits and it is at most `most`.
-pub(crate) fn number(start: u64, text: &[u8], base: u64, most: u64) -> Bits
+pub fn number(start: u64, text: &[u8], base: u64, most: u64) -> Bits
     requires { ⌜ (0 < base) × (start ≤ most) ⌝ }
     ensures { λ r. ⌜ r ≡ numberOf base start (now (text .entry)) most ⌝ }
 {

@@ -27,7 +27,7 @@ fn glyph(d: u64) -> u8
 }
 
 // Puts the last `count` digits of n in from place `at` on.
-fn spell(n: u64, base: u64, at: usize, count: usize, out: &mut [u8])
+pub fn spell(n: u64, base: u64, at: usize, count: usize, out: &mut [u8])
     requires { ⌜ (0 < base) × (base ≤ 16) × (at + count ≤ length (now out)) ⌝ }
     ensures { λ _. ⌜ now (out .exit) ≡ putAt at (lastDigits base count n) (now (out .entry)) ⌝ }
 {
@@ -42,7 +42,7 @@ fn spell(n: u64, base: u64, at: usize, count: usize, out: &mut [u8])
 }
 
 // Puts a number's decimal digits in from place `at` on; answers where they end.
-fn write_from(n: u64, at: usize, out: &mut [u8]) -> usize
+pub fn write_from(n: u64, at: usize, out: &mut [u8]) -> usize
     requires { ⌜ at + 20 ≤ length (now out) ⌝ }
     ensures { λ r. ⌜ r ≡ at + length (naturalText n) ⌝ }
     ensures { λ _. ⌜ now (out .exit) ≡ putAt at (naturalText n) (now (out .entry)) ⌝ }
@@ -73,7 +73,7 @@ pub fn write_integer(bits: u64, highest: u64, out: &mut [u8]) -> usize
 }
 
 // Puts 0x and the last `count` hexadecimal digits at the start of `out` and keeps the bytes after them; answers their length.
-pub(crate) fn write_hex(bits: u64, count: usize, out: &mut [u8]) -> usize
+pub fn write_hex(bits: u64, count: usize, out: &mut [u8]) -> usize
     requires { ⌜ 2 + count ≤ length (now out) ⌝ }
     ensures { λ r. ⌜ record { size = r; bytes = now (out .exit) } ≡ output (hexText bits count) (now (out .entry)) ⌝ }
 {
@@ -81,20 +81,4 @@ pub(crate) fn write_hex(bits: u64, count: usize, out: &mut [u8]) -> usize
     out[1] = b'x';
     spell(bits, 16, 2, count, out);
     2 + count
-}
-
-// Puts n / power in from place `at` on, with k digits after the point, if there are any; answers where it ends. Promised is only that this is
-// at most 37: the caller reads the text back.
-pub(crate) fn write_fixed(n: u64, k: usize, power: u64, at: usize, out: &mut [u8]) -> usize
-    requires { ⌜ (k ≤ 15) × (0 < power) × (at ≤ 1) × (37 ≤ length (now out)) ⌝ }
-    ensures { λ r. ⌜ r ≤ 37 ⌝ }
-{
-    let end = write_from(n / power, at, out);
-    if k == 0 {
-        return end;
-    }
-    out[end] = b'.';
-    let first = end + 1;
-    spell(n % power, 10, first, k, out);
-    first + k
 }

@@ -2,12 +2,12 @@
 use crate::print;
 use crate::words;
 use decimal::Bits;
-use decimal::Format;
-use decimal::float;
 use decimal::hex;
 use decimal::integer;
 use decimal::write;
-use decimal::write_float;
+use decimal_float::Format;
+use decimal_float::float;
+use decimal_float::write_float;
 use union_array::Kind;
 ghost use Prim.Native.Nat.{_+_, _*_, _<_, _≤_};
 ghost use lib.ListN.{length};

@@ -1,0 +1,4 @@
+pub mod DivisionLaws
+pub mod FloatLaws
+pub mod NearestLaws
+pub mod BackLaws
