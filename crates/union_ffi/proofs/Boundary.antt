@@ -5,7 +5,6 @@ use mathlib.Core.Option.{Option}
 use mathlib.Core.List.{List, []}
 use lib.ListN.{take, drop}
 use Prim.Native.Nat.{ℕ, zero, suc, _<_, _≤_}
-use native.Mathlib.Omega.{arith}
 use borrow.Author.Tests.{lt-ltb, le-ltb}
 use Rattle.union_array.specs.declared.Kind.{Kind}
 use Rattle.union_array.specs.declared.UnionArray.{UnionArray}
