@@ -1,5 +1,5 @@
 /* The size of each struct of union.h, and the type and the place of each of its fields: those that the archive has
- * (crates/union_ffi/src/lib.rt), and that rust/src/ffi.rs asserts too. To compile this file is the test. */
+ * (crates/union_c/src/lib.rt), and that rust/src/ffi.rs asserts too. To compile this file is the test. */
 #include "union.h"
 
 #define SIZE(type, bytes) _Static_assert(sizeof(type) == (bytes), "the size of " #type)

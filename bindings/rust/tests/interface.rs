@@ -1,5 +1,5 @@
-//! The header and the Rust declarations have the fields and the parameters of crates/union_ffi: the same names and
-//! types, in the same order. A compiler sees no difference between two parameters of one type.
+//! The header and the Rust declarations have the fields of crates/union_c and the parameters of crates/union_ffi: the
+//! same names and types, in the same order. A compiler sees no difference between two parameters of one type.
 
 use std::collections::BTreeMap;
 use std::fs;
@@ -30,7 +30,7 @@ fn header() -> (String, BTreeMap<String, String>) {
     (code.lines().filter(|line| !line.starts_with('#')).flat_map(|line| [line, "\n"]).collect(), defined)
 }
 
-/// A type by its name in the crate: `CColumn` of union_ffi is `Column`.
+/// A type by its name in the crate: `CColumn` of union_c is `Column`.
 fn rust_type(name: &str) -> String {
     let name = name.trim().replace("MAX_COLUMNS", "128").replace("NAME_BYTES", "32");
     match name.strip_prefix("[C").or(name.strip_prefix('C')) {
@@ -172,8 +172,8 @@ fn same(what: &str, ours: &Declared, theirs: &Declared) {
 }
 
 #[test]
-fn structs_have_the_fields_of_union_ffi() {
-    let exported = structs("crates/union_ffi/src/lib.rt");
+fn structs_have_the_fields_of_union_c() {
+    let exported = structs("crates/union_c/src/lib.rt");
     assert_eq!(exported.len(), 17);
     same("bindings/union.h", &header_structs(), &exported);
     same("bindings/rust/src/ffi.rs", &structs("bindings/rust/src/ffi.rs"), &exported);

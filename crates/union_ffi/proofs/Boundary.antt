@@ -1,11 +1,10 @@
 -- Appends, null masks and shown parts at the boundary. Assumes nothing.
-use mathlib.Core.Path.{_≡_, refl, sym, ap, ap₂}
+use mathlib.Core.Path.{_≡_, refl, ap}
 use mathlib.Core.Bool.{true, false}
 use mathlib.Core.Option.{Option}
 use mathlib.Core.List.{List, []}
 use lib.ListN.{take, drop}
 use Prim.Native.Nat.{ℕ, zero, suc, _<_, _≤_}
-use native.Mathlib.Omega.{arith}
 use borrow.Author.Tests.{lt-ltb, le-ltb}
 use Rattle.union_array.specs.declared.Kind.{Kind}
 use Rattle.union_array.specs.declared.UnionArray.{UnionArray}
@@ -14,16 +13,23 @@ use Rattle.union_array.specs.Refusal.{ifYes}
 use Rattle.union_array.specs.Questions.{asked}
 use Rattle.union_array.specs.Lookup.{typeIdsOf}
 use Rattle.union_builder.specs.declared.Appended.{Appended}
-use Rattle.union_builder.specs.declared.Finished.{Finished}
 use Rattle.union_builder.specs.declared.UnionBuilder.{UnionBuilder}
 use Rattle.union_builder.specs.Append.{outcome, appendWith}
 use Rattle.union_array.specs.Numbers.{kindFrom, badNumber}
 use Rattle.logical_nulls.specs.declared.LogicalNulls.{LogicalNulls}
 use Rattle.logical_nulls.specs.declared.SparseStrategy.{SparseStrategy}
 use Rattle.logical_nulls.specs.Mask.{withWords, logicalNullsOf, strategyOf}
-use Rattle.union_ffi.specs.Arrays.{CArray, CPart, arrayFrom, isArray, arrayTo, partOf}
-use Rattle.union_ffi.specs.Nulls.{CNulls, strategyFrom, isStrategy, nullsTo, cMasked, maskedTo, cLogicalNulls, cStrategy}
-use Rattle.union_ffi.specs.Builders.{CBuilder, CBuilt, CFinished, builderFrom, builderTo, isBuilder, built, appendedTo, finishedTo, cOutcome, outcomeTo, cAppendWith}
+use Rattle.union_c.specs.declared.CArray.{CArray}
+use Rattle.union_c.specs.declared.CPart.{CPart}
+use Rattle.union_c.specs.declared.CNulls.{CNulls}
+use Rattle.union_c.specs.declared.CBuilder.{CBuilder}
+use Rattle.union_c.specs.declared.CBuilt.{CBuilt}
+use Rattle.union_c.specs.Arrays.{arrayFrom, isArray}
+use Rattle.union_c.specs.Nulls.{strategyFrom, isStrategy, nullsTo}
+use Rattle.union_c.specs.Builders.{builderFrom, isBuilder, built, appendedTo}
+use Rattle.union_ffi.specs.Arrays.{partOf}
+use Rattle.union_ffi.specs.Nulls.{cMasked, maskedTo, cLogicalNulls, cStrategy}
+use Rattle.union_ffi.specs.Builders.{cOutcome, outcomeTo, cAppendWith}
 
 pub part-refused : (a : UnionArray) (n : ℕ) → (n ≡ 0 → ⊥) → _≡_ {A = CPart} (record { start = 0; count = 0; refusal = n }) (partOf a n)
 part-refused a zero h = absurd (h refl)
@@ -38,23 +44,6 @@ part-shown a m = by (asked a (amountsOf m))
     by : (n : ℕ) → ifYes n (take (a .count) (drop (a .start) (m .ids))) [] ≡ take (ifYes n (a .count) 0) (drop (ifYes n (a .start) 0) (m .ids))
     by zero = refl
     by (suc n) = refl
-
--- an answer with a refusal, and one without
-pub answer-refused : {A : Type 0} (n : ℕ) (x y : A) → (n ≡ 0 → ⊥) → y ≡ ifYes n x y
-answer-refused zero x y h = absurd (h refl)
-answer-refused (suc n) x y h = refl
-
-pub answer-accepted : {A : Type 0} (n : ℕ) (w x y : A) → n ≡ 0 → w ≡ x → w ≡ ifYes n x y
-answer-accepted zero w x y h e = e
-answer-accepted (suc n) w x y h e = absurd (omega arith)
-
-module _ (c : CBuilder) (f : Finished) where
-  pub finish-refused : (a : CArray) → (f .refusal ≡ 0 → ⊥) → a ≡ arrayTo (f .array) → _≡_ {A = CFinished} (record { builder = c; array = a; refusal = f .refusal }) (finishedTo c f)
-  finish-refused a h e = rw e (ap (λ (b : CBuilder). record { builder = b; array = arrayTo (f .array); refusal = f .refusal }) (answer-refused (f .refusal) _ c h))
-
-  pub finish-accepted : (b : CBuilder) (a : CArray) → f .refusal ≡ 0 → b ≡ builderTo (f .builder) → a ≡ arrayTo (f .array) → _≡_ {A = CFinished} (record { builder = b; array = a; refusal = 0 }) (finishedTo c f)
-  finish-accepted b a h g e =
-      rw e (ap₂ (λ (b : CBuilder) (n : ℕ). record { builder = b; array = arrayTo (f .array); refusal = n }) (answer-accepted (f .refusal) b _ c h g) (sym h))
 
 module _ (b : CBuilder) (m : Buffers) (name : List ℕ) (kind : ℕ) (v : Option ℕ) where
   pub append-bad : isBuilder b ≡ false → cOutcome (built b badNumber) m ≡ cAppendWith b m name kind v

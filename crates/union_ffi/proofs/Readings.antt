@@ -8,9 +8,11 @@ use Rattle.union_array.specs.Numbers.{badNumber}
 use Rattle.union_builder.specs.declared.Appended.{Appended}
 use Rattle.union_builder.specs.declared.UnionBuilder.{UnionBuilder}
 use Rattle.union_builder.specs.Appends.{Readings, runOutcome, appendsOf}
-use Rattle.union_ffi.specs.Builders.{CBuilder, CBuilt, isBuilder, builderFrom, builderInto, built, appendedTo}
+use Rattle.union_c.specs.declared.CBuilder.{CBuilder}
+use Rattle.union_c.specs.declared.CBuilt.{CBuilt}
+use Rattle.union_c.specs.Builders.{isBuilder, builderFrom, builderInto, built, appendedTo}
+use Rattle.union_c.proofs.Refused.{answer-refused, answer-accepted}
 use Rattle.union_ffi.specs.Appends.{cAppended, appendsTo, cAppends}
-use Rattle.union_ffi.proofs.Boundary.{answer-refused, answer-accepted}
 
 module _ (b : CBuilder) (m : Buffers) (r : Readings) (refusals : List ℕ) where
   pub appends-bad : isBuilder b ≡ false → cAppended (built b badNumber) m refusals ≡ cAppends b m r refusals

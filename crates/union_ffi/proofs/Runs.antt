@@ -30,7 +30,8 @@ use Rattle.union_array.proofs.Columns.{found-id}
 use Rattle.union_array.proofs.Checked.{readable}
 use Rattle.union_array.proofs.ChildSlots.{within-sign}
 use Rattle.union_array.specs.Numbers.{badNumber, badLength}
-use Rattle.union_ffi.specs.Arrays.{CArray, isArray, arrayFrom}
+use Rattle.union_c.specs.declared.CArray.{CArray}
+use Rattle.union_c.specs.Arrays.{isArray, arrayFrom}
 use Rattle.union_ffi.specs.Values.{firstRefusal, slotNo, runChecked, Values, valuesAnswer, hasRoom, valuesOf, cValues}
 use Rattle.union_ffi.specs.Reading.{SlotValue, placeTable, slotValueOf, slotValueAt, InChild, RunAccepted}
 

@@ -4,8 +4,10 @@ use Prim.Native.Nat.{ℕ}
 use Rattle.union_array.specs.Buffers.{Buffers}
 use Rattle.union_array.specs.Numbers.{badNumber}
 use Rattle.union_builder.specs.Appends.{Readings, RunOutcome, appendsOf}
-use Rattle.union_ffi.specs.Numbers.{atBoundary}
-use Rattle.union_ffi.specs.Builders.{CBuilder, CBuilt, isBuilder, builderFrom, built, appendedTo}
+use Rattle.union_c.specs.declared.CBuilder.{CBuilder}
+use Rattle.union_c.specs.declared.CBuilt.{CBuilt}
+use Rattle.union_c.specs.Builders.{isBuilder, builderFrom, built, appendedTo}
+use Rattle.union_ffi.specs.Boundary.{atBoundary}
 
 -- the answer, lent memory and the numbers at exit
 pub record CAppends : Type 0 where

@@ -1,130 +1,30 @@
--- Arrays and their answers as C structs, and each call on an array at the boundary.
-use mathlib.Core.Bool.{Bool, false, _&&_}
+-- Each call on an array at the boundary.
+use mathlib.Core.Bool.{false}
 use Prim.Native.Nat.{ℕ}
 use lib.IntN.{ℤ, pos}
-use lib.ListN.{take, replicate}
-use Rattle.bitmap.specs.Bits.{digit}
-use Rattle.union_array.specs.declared.Column.{Column}
+use lib.ListN.{replicate}
 use Rattle.union_array.specs.declared.UnionArray.{UnionArray}
-use Rattle.union_array.specs.declared.Value.{Value}
-use Rattle.union_array.specs.declared.TypeId.{TypeId}
-use Rattle.union_array.specs.declared.ValueOffset.{ValueOffset}
-use Rattle.union_array.specs.declared.Child.{Child}
-use Rattle.union_array.specs.declared.NamePlace.{NamePlace}
-use Rattle.union_array.specs.declared.TypeNames.{TypeNames}
 use Rattle.union_array.specs.declared.Flag.{Flag}
-use Rattle.union_array.specs.declared.Slice.{Slice}
-use Rattle.union_array.specs.Types.{kindNumber, noColumn, noArray}
+use Rattle.union_array.specs.Types.{noColumn, noArray}
 use Rattle.union_array.specs.Buffers.{Buffers, amountsOf}
 use Rattle.union_array.specs.Refusal.{ifYes}
 use Rattle.union_array.specs.Questions.{asked}
 use Rattle.union_array.specs.Lookup.{tryNewOf, noValue, valueOf, typeIdOf, valueOffsetOf, childOf, noName, typeNamesOf, isDenseOf, isNullableOf}
 use Rattle.union_array.specs.Slices.{sliceOf}
-use Rattle.union_array.specs.Numbers.{kindFrom, layoutFrom, layoutNumber, isLayout, flagFrom, badNumber}
-use Rattle.union_ffi.specs.Numbers.{isCase, each, firstBy, atBoundary}
-pub use Rattle.union_ffi.specs.declared.CColumn.{CColumn}
-pub use Rattle.union_ffi.specs.declared.CArray.{CArray}
-pub use Rattle.union_ffi.specs.declared.CValue.{CValue}
-pub use Rattle.union_ffi.specs.declared.CTypeId.{CTypeId}
-pub use Rattle.union_ffi.specs.declared.CValueOffset.{CValueOffset}
-pub use Rattle.union_ffi.specs.declared.CChild.{CChild}
-pub use Rattle.union_ffi.specs.declared.CNamePlace.{CNamePlace}
-pub use Rattle.union_ffi.specs.declared.CTypeNames.{CTypeNames}
-pub use Rattle.union_ffi.specs.declared.CFlag.{CFlag}
-pub use Rattle.union_ffi.specs.declared.CSlice.{CSlice}
-pub use Rattle.union_ffi.specs.declared.CPart.{CPart}
+use Rattle.union_array.specs.Numbers.{badNumber}
+use Rattle.union_c.specs.declared.CArray.{CArray}
+use Rattle.union_c.specs.declared.CValue.{CValue}
+use Rattle.union_c.specs.declared.CTypeId.{CTypeId}
+use Rattle.union_c.specs.declared.CValueOffset.{CValueOffset}
+use Rattle.union_c.specs.declared.CChild.{CChild}
+use Rattle.union_c.specs.declared.CTypeNames.{CTypeNames}
+use Rattle.union_c.specs.declared.CFlag.{CFlag}
+use Rattle.union_c.specs.declared.CSlice.{CSlice}
+use Rattle.union_c.specs.declared.CPart.{CPart}
+use Rattle.union_c.specs.Arrays.{arrayFrom, isArray, valueTo, flagTo, typeIdTo, valueOffsetTo, childTo, typeNamesTo, sliceTo}
+use Rattle.union_ffi.specs.Boundary.{atBoundary}
 
--- ---- reading
-abbrev pub columnFrom : CColumn → Column
-columnFrom c = record {
-  values = c .values;
-  mask = c .mask;
-  name = c .name;
-  slots = c .slots;
-  bit = c .bit;
-  size = c .size;
-  id = c .id;
-  kind = kindFrom (c .kind);
-  masked = flagFrom (c .masked);
-}
-
--- entries past the columns in use are not read
-unfoldable pub arrayFrom : CArray → UnionArray
-arrayFrom a = record {
-  columns = firstBy (a .fields) columnFrom (a .columns) (replicate 128 noColumn);
-  fields = a .fields;
-  children = a .children;
-  start = a .start;
-  count = a .count;
-  «offsets_start» = a .«offsets_start»;
-  «offsets_count» = a .«offsets_count»;
-  layout = layoutFrom (a .layout);
-}
-
--- every number of the columns in use names a case; entries past the fields may hold anything
-unfoldable pub isArray : CArray → Bool
-isArray a = isLayout (a .layout) && each (λ c. isCase (c .kind) (c .masked)) (take (a .fields) (a .columns))
-
--- ---- writing
-abbrev pub columnTo : Column → CColumn
-columnTo c = record {
-  values = c .values;
-  mask = c .mask;
-  name = c .name;
-  slots = c .slots;
-  bit = c .bit;
-  size = c .size;
-  id = c .id;
-  kind = kindNumber (c .kind);
-  masked = digit (c .masked);
-}
-
--- entries past the columns in use are zeros
-unfoldable pub arrayTo : UnionArray → CArray
-arrayTo a = record {
-  columns = firstBy (a .fields) columnTo (a .columns) (replicate 128 (columnTo noColumn));
-  fields = a .fields;
-  children = a .children;
-  start = a .start;
-  count = a .count;
-  «offsets_start» = a .«offsets_start»;
-  «offsets_count» = a .«offsets_count»;
-  layout = layoutNumber (a .layout);
-}
-
-abbrev pub valueTo : Value → CValue
-valueTo v = record {
-  bits = v .bits;
-  name = v .name;
-  size = v .size;
-  refusal = v .refusal;
-  id = v .id;
-  kind = kindNumber (v .kind);
-  missing = digit (v .missing);
-}
-
-abbrev pub flagTo : Flag → CFlag
-flagTo f = record { refusal = f .refusal; holds = digit (f .holds) }
-
-abbrev pub typeIdTo : TypeId → CTypeId
-typeIdTo t = record { refusal = t .refusal; id = t .id }
-
-abbrev pub valueOffsetTo : ValueOffset → CValueOffset
-valueOffsetTo o = record { offset = o .offset; refusal = o .refusal }
-
-abbrev pub childTo : Child → CChild
-childTo c = record { column = columnTo (c .column); refusal = c .refusal }
-
-abbrev pub nameTo : NamePlace → CNamePlace
-nameTo n = record { start = n .start; size = n .size }
-
-unfoldable pub typeNamesTo : TypeNames → CTypeNames
-typeNamesTo t = record { names = firstBy (t .count) nameTo (t .names) (replicate 128 (nameTo noName)); count = t .count; refusal = t .refusal }
-
-abbrev pub sliceTo : Slice → CSlice
-sliceTo s = record { array = arrayTo (s .array); refusal = s .refusal }
-
--- ---- the calls: "all other answer fields 0" where a number names no case
+-- "all other answer fields 0" where a number names no case
 unfoldable pub cTryNew : CArray → Buffers → ℕ
 cTryNew a m = atBoundary (isArray a) (tryNewOf (arrayFrom a) m) badNumber
 

@@ -1,5 +1,5 @@
--- What the exported functions' contracts cite: the C structs read and written, and each call at the boundary.
-pub mod Numbers
+-- What the exported functions' contracts cite: each call at the boundary, over the C structs of union_c.
+pub mod Boundary
 pub mod Arrays
 pub mod Nulls
 pub mod Builders

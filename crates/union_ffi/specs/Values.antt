@@ -13,8 +13,9 @@ use Rattle.union_array.specs.Refusal.{no, _then_, ifYes}
 use Rattle.union_array.specs.Questions.{namedAt, offsetFits, asked}
 use Rattle.union_array.specs.Lookup.{valueOf}
 use Rattle.union_array.specs.Numbers.{badNumber, badLength}
-use Rattle.union_ffi.specs.Numbers.{atBoundary}
-use Rattle.union_ffi.specs.Arrays.{CArray, isArray, arrayFrom}
+use Rattle.union_c.specs.declared.CArray.{CArray}
+use Rattle.union_c.specs.Arrays.{isArray, arrayFrom}
+use Rattle.union_ffi.specs.Boundary.{atBoundary}
 
 -- f 0, f 1, .., f (n - 1): the first of them that is not 0
 abbrev pub firstRefusal : ℕ → (ℕ → ℕ) → ℕ

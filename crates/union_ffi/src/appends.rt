@@ -3,9 +3,9 @@ ghost use mathlib.Core.Path.{_≡_};
 ghost use Rattle.union_array.specs.Buffers.{buffersOf};
 ghost use Rattle.union_builder.specs.Appends.{readingsOf};
 ghost use Rattle.union_ffi.specs.Appends.{cAppended, cAppends};
-use crate::CBuilder;
-use crate::CBuilt;
-use crate::convert;
+use union_c::CBuilder;
+use union_c::CBuilt;
+use union_c::convert;
 
 // Appends the readings in order: names in the text, kinds and presence by their numbers, and the values' bits.
 #[no_mangle]

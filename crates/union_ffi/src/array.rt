@@ -2,22 +2,22 @@
 ghost use mathlib.Core.Path.{_≡_};
 ghost use Rattle.union_array.specs.Buffers.{buffersOf};
 ghost use Rattle.union_ffi.specs.Arrays.{cTryNew, cValue, cTypeId, cValueOffset, cChild, cTypeNames, cIsDense, cIsNullable, cTypeIds, cSlice};
-use crate::CArray;
-use crate::CChild;
-use crate::CFlag;
-use crate::CPart;
-use crate::CSlice;
-use crate::CTypeId;
-use crate::CTypeNames;
-use crate::CValue;
-use crate::CValueOffset;
-use crate::convert;
 use union_array::Amounts;
 use union_array::NamePlace;
 use union_array::TypeNames;
 use union_array::child_value;
 use union_array::questions;
 use union_array::slices;
+use union_c::CArray;
+use union_c::CChild;
+use union_c::CFlag;
+use union_c::CPart;
+use union_c::CSlice;
+use union_c::CTypeId;
+use union_c::CTypeNames;
+use union_c::CValue;
+use union_c::CValueOffset;
+use union_c::convert;
 
 // Whether the description is one of a union array over the memory lent.
 #[no_mangle]

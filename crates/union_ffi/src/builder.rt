@@ -3,29 +3,15 @@ ghost use mathlib.Core.Path.{_≡_};
 ghost use mathlib.Core.Option.{none, some};
 ghost use Rattle.union_array.specs.declared.Layout.the-variants.{Sparse, Dense};
 ghost use Rattle.union_array.specs.Buffers.{buffersOf};
-ghost use Rattle.union_ffi.specs.Builders.{madeTo, appendedTo, finishedTo, cOutcome, cMade, cAppendWith, cLen, notFinished, cFinishCloned, cFinish};
-use crate::CBuilder;
-use crate::CBuilt;
-use crate::CFinished;
-use crate::CLength;
-use crate::convert;
+ghost use Rattle.union_ffi.specs.Builders.{cOutcome, cMade, cAppendWith, cLen, cFinishCloned, cFinish};
 use union_array::kinds;
-use union_array::slices;
-use union_builder::Appended;
-use union_builder::Finished;
-use union_builder::Made;
 use union_builder::UnionBuilder;
-
-// A made builder, for C.
-fn made_to(r: Made) -> CBuilt
-    ensures { λ c. ⌜ c ≡ madeTo r ⌝ }
-{
-    let b = r.builder;
-    CBuilt {
-        builder: convert::builder_to(b),
-        refusal: r.refusal,
-    }
-}
+use union_c::CBuilder;
+use union_c::CBuilt;
+use union_c::CFinished;
+use union_c::CLength;
+use union_c::answers;
+use union_c::convert;
 
 // A dense builder of `capacity` slots and at most `limit` columns.
 #[no_mangle]
@@ -40,7 +26,7 @@ pub extern "C" fn union_builder_with_capacity_dense(
 ) -> CBuilt
     ensures { λ r. ⌜ r ≡ cMade Dense capacity limit (buffersOf (now («type_ids» .entry)) (now (offsets .entry)) (now (values .entry)) (now (masks .entry)) (now (names .entry))) ⌝ }
 {
-    made_to(UnionBuilder::with_capacity_dense(
+    answers::made_to(UnionBuilder::with_capacity_dense(
         capacity,
         limit,
         type_ids,
@@ -64,7 +50,7 @@ pub extern "C" fn union_builder_with_capacity_sparse(
 ) -> CBuilt
     ensures { λ r. ⌜ r ≡ cMade Sparse capacity limit (buffersOf (now («type_ids» .entry)) (now (offsets .entry)) (now (values .entry)) (now (masks .entry)) (now (names .entry))) ⌝ }
 {
-    made_to(UnionBuilder::with_capacity_sparse(
+    answers::made_to(UnionBuilder::with_capacity_sparse(
         capacity,
         limit,
         type_ids,
@@ -87,7 +73,7 @@ pub extern "C" fn union_builder_new_dense(
 ) -> CBuilt
     ensures { λ r. ⌜ r ≡ cMade Dense 1024 limit (buffersOf (now («type_ids» .entry)) (now (offsets .entry)) (now (values .entry)) (now (masks .entry)) (now (names .entry))) ⌝ }
 {
-    made_to(UnionBuilder::new_dense(limit, type_ids, offsets, values, masks, names))
+    answers::made_to(UnionBuilder::new_dense(limit, type_ids, offsets, values, masks, names))
 }
 
 // A sparse builder of 1024 slots.
@@ -102,24 +88,7 @@ pub extern "C" fn union_builder_new_sparse(
 ) -> CBuilt
     ensures { λ r. ⌜ r ≡ cMade Sparse 1024 limit (buffersOf (now («type_ids» .entry)) (now (offsets .entry)) (now (values .entry)) (now (masks .entry)) (now (names .entry))) ⌝ }
 {
-    made_to(UnionBuilder::new_sparse(limit, type_ids, offsets, values, masks, names))
-}
-
-// What an append answers to a caller who keeps `c`.
-fn appended_to(c: CBuilder, r: Appended) -> CBuilt
-    ensures { λ w. ⌜ w ≡ appendedTo c r ⌝ }
-{
-    if r.refusal != 0 {
-        return CBuilt {
-            builder: c,
-            refusal: r.refusal,
-        };
-    }
-    let after = r.builder;
-    CBuilt {
-        builder: convert::builder_into(c, after),
-        refusal: 0,
-    }
+    answers::made_to(UnionBuilder::new_sparse(limit, type_ids, offsets, values, masks, names))
 }
 
 // Appends a value to the column with the name.
@@ -154,7 +123,7 @@ pub extern "C" fn union_builder_append(
     let b = convert::builder_from(builder);
     let k = kinds::kind_from(kind);
     let r = b.append(name, k, bits, type_ids, offsets, values, masks, names);
-    appended_to(builder, r)
+    answers::appended_to(builder, r)
 }
 
 // Appends a null to the column with the name.
@@ -188,7 +157,7 @@ pub extern "C" fn union_builder_append_null(
     let b = convert::builder_from(builder);
     let k = kinds::kind_from(kind);
     let r = b.append_null(name, k, type_ids, offsets, values, masks, names);
-    appended_to(builder, r)
+    answers::appended_to(builder, r)
 }
 
 // How many slots there are. Nothing is asked.
@@ -199,37 +168,6 @@ pub extern "C" fn union_builder_len(builder: CBuilder) -> CLength
     CLength {
         builder: builder,
         len: builder.len,
-    }
-}
-
-// What a finish that empties the builder answers to a caller who keeps `c`.
-fn finished_to(c: CBuilder, f: Finished) -> CFinished
-    ensures { λ r. ⌜ r ≡ finishedTo c f ⌝ }
-{
-    let a = f.array;
-    if f.refusal != 0 {
-        return CFinished {
-            builder: c,
-            array: convert::array_to(a),
-            refusal: f.refusal,
-        };
-    }
-    let b = f.builder;
-    CFinished {
-        builder: convert::builder_to(b),
-        array: convert::array_to(a),
-        refusal: 0,
-    }
-}
-
-// What a finish of a builder with a number that names no case answers.
-fn not_finished(builder: CBuilder) -> CFinished
-    ensures { λ r. ⌜ r ≡ notFinished builder ⌝ }
-{
-    CFinished {
-        builder: builder,
-        array: convert::array_to(slices::no_array()),
-        refusal: 128,
     }
 }
 
@@ -246,7 +184,7 @@ pub extern "C" fn union_builder_finish_cloned(
     ensures { λ r. ⌜ r ≡ cFinishCloned builder (buffersOf (now («type_ids» .entry)) (now (offsets .entry)) (now (values .entry)) (now (masks .entry)) (now (names .entry))) ⌝ }
 {
     if !convert::is_builder(builder) {
-        return not_finished(builder);
+        return answers::not_finished(builder);
     }
     let b = convert::builder_from(builder);
     let f = b.finish_cloned(type_ids, offsets, values, masks, names);
@@ -271,8 +209,8 @@ pub extern "C" fn union_builder_finish(
     ensures { λ r. ⌜ r ≡ cFinish builder (buffersOf (now («type_ids» .entry)) (now (offsets .entry)) (now (values .entry)) (now (masks .entry)) (now (names .entry))) ⌝ }
 {
     if !convert::is_builder(builder) {
-        return not_finished(builder);
+        return answers::not_finished(builder);
     }
     let b = convert::builder_from(builder);
-    finished_to(builder, b.finish(type_ids, offsets, values, masks, names))
+    answers::finished_to(builder, b.finish(type_ids, offsets, values, masks, names))
 }

@@ -1,47 +1,13 @@
 // The null mask, for C.
 ghost use mathlib.Core.Path.{_≡_};
 ghost use Rattle.union_array.specs.Buffers.{buffersOf};
-ghost use Rattle.union_ffi.specs.Nulls.{strategyFrom, isStrategy, nullsTo, cMasked, cLogicalNulls, cStrategy};
-use crate::CArray;
-use crate::CNulls;
-use crate::convert;
-use logical_nulls::LogicalNulls;
-use logical_nulls::SparseStrategy;
+ghost use Rattle.union_ffi.specs.Nulls.{cMasked, cLogicalNulls, cStrategy};
 use logical_nulls::mask;
 use logical_nulls::named;
-
-// The strategy with a route's number; any other number is read as Gather.
-fn strategy_from(n: u8) -> SparseStrategy
-    ensures { λ r. ⌜ r ≡ strategyFrom n ⌝ }
-{
-    match n {
-        4 => SparseStrategy::SkipOne,
-        5 => SparseStrategy::SkipWithoutNulls,
-        6 => SparseStrategy::SkipFullyNull,
-        _ => SparseStrategy::Gather,
-    }
-}
-
-// Whether a number is the route of a named strategy.
-fn is_strategy(n: u8) -> bool
-    ensures { λ r. ⌜ r ≡ isStrategy n ⌝ }
-{
-    if n < 3 {
-        return false;
-    }
-    n < 7
-}
-
-fn nulls_to(r: LogicalNulls) -> CNulls
-    ensures { λ c. ⌜ c ≡ nullsTo r ⌝ }
-{
-    CNulls {
-        nulls: r.nulls,
-        refusal: r.refusal,
-        route: r.route,
-        present: convert::flag_to(r.present),
-    }
-}
+use union_c::CArray;
+use union_c::CNulls;
+use union_c::answers;
+use union_c::convert;
 
 // The null mask at a gather cost: its answer, and its words in `out`.
 #[no_mangle]
@@ -66,7 +32,7 @@ pub extern "C" fn union_logical_nulls(
         };
     }
     let a = convert::array_from(array);
-    nulls_to(mask::logical_nulls(a, cost, type_ids, offsets, values, masks, names, out))
+    answers::nulls_to(mask::logical_nulls(a, cost, type_ids, offsets, values, masks, names, out))
 }
 
 // The null mask by one named strategy, given by its route's number: its answer, and its words in `out`.
@@ -91,7 +57,7 @@ pub extern "C" fn union_strategy(
             present: 0,
         };
     }
-    if !is_strategy(strategy) {
+    if !convert::is_strategy(strategy) {
         return CNulls {
             nulls: 0,
             refusal: 128,
@@ -100,6 +66,6 @@ pub extern "C" fn union_strategy(
         };
     }
     let a = convert::array_from(array);
-    let s = strategy_from(strategy);
-    nulls_to(named::run_strategy(a, s, type_ids, offsets, values, masks, names, out))
+    let s = convert::strategy_from(strategy);
+    answers::nulls_to(named::run_strategy(a, s, type_ids, offsets, values, masks, names, out))
 }

@@ -16,9 +16,7 @@ ghost use Rattle.union_array.specs.Questions.{within};
 ghost use Rattle.union_array.specs.Check.{onlySlots};
 ghost use Rattle.union_ffi.specs.Values.{firstRefusal, slotNo, valuesAnswer, valuesOf, cValues};
 ghost use Rattle.union_ffi.specs.Reading.{placeTable, slotValueOf, slotValueAt, InChild, RunReadable, RunAccepted};
-use crate::CArray;
 use crate::SlotValue;
-use crate::convert;
 use union_array::Amounts;
 use union_array::Column;
 use union_array::Layout;
@@ -27,6 +25,8 @@ use union_array::check;
 use union_array::child_value;
 use union_array::presence;
 use union_array::questions;
+use union_c::CArray;
+use union_c::convert;
 
 // The places of the first `fields` columns, by their ids.
 fn places_by_id(columns: [Column; 128], fields: usize) -> [u8; 256]

@@ -5,7 +5,7 @@ use borrow.Author.Needs.{needs}
 use borrow.Author.Tests.{not-true, not-false}
 use Rattle.union_array.specs.Buffers.{Buffers, buffersOf}
 use Rattle.union_builder.specs.Appends.{Readings, readingsOf}
-use Rattle.union_ffi.specs.Builders.{isBuilder}
+use Rattle.union_c.specs.Builders.{isBuilder}
 use Rattle.union_ffi.proofs.Readings.{appends-bad, appends-refused, appends-accepted}
 use Rattle.union_ffi.proofs.appends.union_builder_appends.Statement.{statement}
 use Rattle.union_ffi.proofs.appends.union_builder_appends.Tie as tie

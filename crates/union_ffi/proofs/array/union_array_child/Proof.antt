@@ -2,7 +2,8 @@ use mir.Facts.{toZ-ofZ}
 use mathlib.Core.Path.{_≡_, sym, _∙_}
 use mathlib.Core.Bool.{true, false}
 use borrow.Author.Tests.{not-true, not-false}
-use Rattle.union_ffi.specs.Arrays.{isArray, cChild}
+use Rattle.union_c.specs.Arrays.{isArray}
+use Rattle.union_ffi.specs.Arrays.{cChild}
 use borrow.Author.Needs.{needs}
 use Rattle.union_ffi.proofs.array.union_array_child.Statement.{statement}
 use Rattle.union_ffi.proofs.array.union_array_child.Tie as tie

@@ -3,7 +3,8 @@ use mathlib.Core.Bool.{true, false}
 use borrow.Author.Tests.{not-true, not-false}
 use Rattle.union_array.specs.Buffers.{buffersOf, amountsOf}
 use Rattle.union_array.specs.Questions.{asked}
-use Rattle.union_ffi.specs.Arrays.{isArray, arrayFrom, cTypeIds}
+use Rattle.union_c.specs.Arrays.{isArray, arrayFrom}
+use Rattle.union_ffi.specs.Arrays.{cTypeIds}
 use Rattle.union_ffi.proofs.Boundary.{part-refused}
 use borrow.Author.Needs.{needs}
 use Rattle.union_ffi.proofs.array.union_array_type_ids.Statement.{statement}

@@ -1,7 +1,8 @@
 use mathlib.Core.Path.{_≡_, sym, _∙_}
 use mathlib.Core.Bool.{true, false}
 use borrow.Author.Tests.{not-true, not-false}
-use Rattle.union_ffi.specs.Arrays.{isArray, cValue}
+use Rattle.union_c.specs.Arrays.{isArray}
+use Rattle.union_ffi.specs.Arrays.{cValue}
 use borrow.Author.Needs.{needs}
 use Rattle.union_ffi.proofs.array.union_array_value.Statement.{statement}
 use Rattle.union_ffi.proofs.array.union_array_value.Tie as tie

@@ -1,7 +1,8 @@
 use mathlib.Core.Path.{_≡_, sym, _∙_}
 use mathlib.Core.Bool.{true, false}
 use borrow.Author.Tests.{not-true, not-false}
-use Rattle.union_ffi.specs.Builders.{isBuilder, cFinishCloned}
+use Rattle.union_c.specs.Builders.{isBuilder}
+use Rattle.union_ffi.specs.Builders.{cFinishCloned}
 use borrow.Author.Needs.{needs}
 use Rattle.union_ffi.proofs.builder.union_builder_finish_cloned.Statement.{statement}
 use Rattle.union_ffi.proofs.builder.union_builder_finish_cloned.Tie as tie

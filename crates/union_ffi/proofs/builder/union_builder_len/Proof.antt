@@ -1,5 +1,6 @@
 use mathlib.Core.Path.{refl}
-use Rattle.union_ffi.specs.Builders.{builderFrom, cLen}
+use Rattle.union_c.specs.Builders.{builderFrom}
+use Rattle.union_ffi.specs.Builders.{cLen}
 use Rattle.union_ffi.proofs.builder.union_builder_len.Statement.{statement}
 use Rattle.union_ffi.proofs.builder.union_builder_len.Tie as tie
 

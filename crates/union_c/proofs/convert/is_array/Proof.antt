@@ -1,0 +1,96 @@
+use mathlib.Core.Path.{_≡_, refl, sym, _∙_}
+use mathlib.Core.Bool.{Bool, true}
+use Prim.Native.Nat.{_-_, _≤_}
+use native.Mathlib.Omega.{arith}
+use borrow.Author.Needs.{needs}
+use borrow.Author.Tests.{le-ltb, lt-ltb, not-true, not-false}
+use lib.ListN.{length, getD, length-map}
+use Rattle.bitmap.specs.Lists.{every}
+use Rattle.union_c.specs.Numbers.{isCase}
+use Rattle.union_c.specs.Arrays.{CColumn, isArray}
+use Rattle.union_c.proofs.Maps.{noCColumn, each-no, each-tested, tested-turn}
+use Rattle.union_c.proofs.convert.is_array.Statement.{statement}
+use Rattle.union_c.proofs.convert.is_array.Tie as tie
+
+abbrev ok : CColumn → Bool
+ok c = isCase (c .kind) (c .masked)
+
+abbrev Inv-loop : tie.InvT-loop
+Inv-loop a k₀ k = (k ≤ 128) × (every k (λ j. ok (getD (a .columns) j noCColumn)) ≡ true)
+
+abbrev μ-loop : tie.MeasureT-loop
+μ-loop a k₀ k = 128 - k
+
+returns : tie.Need-returns Inv-loop μ-loop
+unfolding isArray
+returns c = rw (le-ltb (c .before .args .t1 .layout) 2 (c .if1 .taken))
+
+loop-holds : tie.Need-loop-holds Inv-loop μ-loop
+loop-holds c = (omega arith, refl)
+
+returns-2 : tie.Need-returns-2 Inv-loop μ-loop
+unfolding isArray
+returns-2 c =
+    let l = c .before .before in
+    let s = l .before .before in
+    let a = s .args .t1 in
+    let full : length (a .columns) ≡ 128 = sym (length-map (a .columns) _) ∙ s .good .0 .1 .1 .0 .1 .0 .1 in
+    rw (lt-ltb (a .layout) 2 (omega arith)) (sym (each-tested ok noCColumn (a .columns) (a .fields) (l .loop .k) (l .loop .inv .1) (λ j h w. omega arith)))
+
+mul-e : tie.Need-mul-e Inv-loop μ-loop
+mul-e c = omega arith
+
+element-copy-out-e : tie.Need-element-copy-out-e Inv-loop μ-loop
+element-copy-out-e c = omega arith
+
+is-case-requires : tie.Need-is-case-requires Inv-loop μ-loop
+is-case-requires c κs = search needs
+
+returns-3 : tie.Need-returns-3 Inv-loop μ-loop
+unfolding isArray
+returns-3 c =
+    let l = c .before .before .before .before .before in
+    let s = l .before .before in
+    let a = s .args .t1 in
+    let full : length (a .columns) ≡ 128 = sym (length-map (a .columns) _) ∙ s .good .0 .1 .1 .0 .1 .0 .1 in
+    rw (lt-ltb (a .layout) 2 (omega arith))
+    (sym (each-no ok noCColumn (a .columns) (a .fields) (l .loop .k) (omega arith) (omega arith) (sym (c .before .is-case .ensures) ∙ not-true _ (c .if3 .taken))))
+
+add-k : tie.Need-add-k Inv-loop μ-loop
+add-k c = omega arith
+
+loop-less : tie.Need-loop-less Inv-loop μ-loop
+loop-less c = omega arith
+
+loop-again : tie.Need-loop-again Inv-loop μ-loop
+loop-again c =
+    let l = c .before .before .before .before .before in
+    let a = l .before .before .args .t1 in
+    (omega arith, tested-turn ok noCColumn (a .columns) (l .loop .k) (l .loop .inv .1) (sym (c .before .is-case .ensures) ∙ not-false _ (c .if3 .left)))
+
+returns-4 : tie.Need-returns-4 Inv-loop μ-loop
+unfolding isArray
+returns-4 c =
+    let l = c .before in
+    let s = l .before .before in
+    let a = s .args .t1 in
+    let full : length (a .columns) ≡ 128 = sym (length-map (a .columns) _) ∙ s .good .0 .1 .1 .0 .1 .0 .1 in
+    rw (lt-ltb (a .layout) 2 (omega arith)) (sym (each-tested ok noCColumn (a .columns) (a .fields) (l .loop .k) (l .loop .inv .1) (λ j h w. omega arith)))
+
+pub is-array-spec : {M : Type 1} → statement M
+is-array-spec =
+    tie.close
+    (tie.spec
+    Inv-loop
+    μ-loop
+    returns
+    loop-holds
+    returns-2
+    mul-e
+    element-copy-out-e
+    is-case-requires
+    returns-3
+    add-k
+    loop-less
+    loop-again
+    returns-4)
