@@ -176,10 +176,10 @@ impl UnionArray {
             masks: masks.len(),
             names: names.len(),
         };
-        let r = questions::ask(self, lent);
-        if r != 0 {
+        let n = questions::ask(self, lent);
+        if n != 0 {
             return Flag {
-                refusal: r,
+                refusal: n,
                 holds: false,
             };
         }
@@ -214,10 +214,10 @@ impl UnionArray {
             masks: masks.len(),
             names: names.len(),
         };
-        let r = questions::ask(self, lent);
-        if r != 0 {
+        let refusal = questions::ask(self, lent);
+        if refusal != 0 {
             return Flag {
-                refusal: r,
+                refusal,
                 holds: false,
             };
         }

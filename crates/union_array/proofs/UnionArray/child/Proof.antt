@@ -1,4 +1,4 @@
-use mathlib.Core.Path.{_≡_}
+use mathlib.Core.Path.{_≡_, ap, _∙_}
 use mathlib.Core.Bool.{true, false}
 use Rattle.union_array.specs.Buffers.{Buffers, buffersOf, amountsOf}
 use borrow.Author.Tests.{not-true, not-false}
@@ -13,7 +13,7 @@ abbrev lent : tie.Start → Buffers
 lent s = let a = s .args in buffersOf (a .type-ids .now) (a .offsets .now) (a .values .now) (a .masks .now) (a .names .now)
 
 looked : (c : tie.After-look) → let s = c .before .before .before .before in c .look .result ≡ lookOf (s .args .self) (amountsOf (lent s)) (s .args .id)
-looked c = let s = c .before .before .before .before in rw (toZ-ofZ (s .fits .id)) at (c .look .ensures)
+looked c = let s = c .before .before .before .before in c .look .ensures ∙ ap (lookOf (s .args .self) (amountsOf (lent s))) (toZ-ofZ (s .fits .id))
 
 look-requires : tie.Need-look-requires
 look-requires c κs = search needs
