@@ -1,7 +1,7 @@
 // Whether two builders, or two lists, are the same.
 use crate::kinds;
+use builder_columns::BuilderColumn;
 use union_array::Layout;
-use union_builder::BuilderColumn;
 use union_builder::UnionBuilder;
 
 pub fn ids(a: &[i8], b: &[i8]) -> bool {

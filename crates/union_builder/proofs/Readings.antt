@@ -16,10 +16,11 @@ use Rattle.union_array.specs.Buffers.{Buffers, amountsOf}
 use Rattle.union_array.specs.Refusal.{ifYes}
 use Rattle.union_array.specs.Numbers.{kindFrom, flagFrom, badNumber, badLength}
 use Rattle.union_array.proofs.Tests.{refused-is}
+use Rattle.builder_columns.specs.Planning.{refusedPlan}
 use Rattle.union_builder.specs.Builder.{UnionBuilder, builderChecked}
 use Rattle.union_builder.specs.Append.{someIf, AppendOutcome, outcome, appendWith}
 use Rattle.union_builder.specs.Writing.{Plan}
-use Rattle.union_builder.specs.Planning.{refusedPlan, Sound, grownAs, answerBy, appendedOf}
+use Rattle.union_builder.specs.Planning.{Sound, grownAs, answerBy, appendedOf}
 use Rattle.union_builder.specs.Appends.{Readings, readingsOf, isReading, readingOf, RunOutcome, runOutcome, appendsStep, lengthsMatch, appendsOf}
 use Rattle.union_builder.proofs.Appending.{append-value, append-none}
 use Rattle.union_builder.proofs.Keeping.{append-checked}

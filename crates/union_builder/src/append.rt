@@ -1,15 +1,15 @@
 // One append, of a value or of a null.
 use crate::Appended;
-use crate::Plan;
 use crate::UnionBuilder;
-use crate::columns::grown_column;
-use crate::columns::if_sparse;
-use crate::columns::own_column;
 use crate::planning::head_of;
 use crate::planning::plan;
 use crate::questions::builder_checked;
-use crate::slots::in_column;
-use crate::store::store;
+use builder_columns::Plan;
+use builder_columns::columns::grown_column;
+use builder_columns::columns::if_sparse;
+use builder_columns::columns::own_column;
+use builder_columns::slots::in_column;
+use builder_columns::store::store;
 use union_array::Amounts;
 use union_array::Kind;
 ghost use mathlib.Core.Path.{_≡_};

@@ -1,12 +1,12 @@
 // Runs of appends: 15 and 16 are asked once for all readings of a run, since an accepted append keeps them.
 use crate::Appended;
-use crate::Plan;
 use crate::UnionBuilder;
 use crate::append::append_step;
 use crate::columns::grow;
-use crate::columns::grown_column;
-use crate::planning::refused;
 use crate::questions::builder_checked;
+use builder_columns::Plan;
+use builder_columns::columns::grown_column;
+use builder_columns::planning::refused;
 use union_array::Amounts;
 use union_array::Layout;
 use union_array::child_value::low_bits;

@@ -1,27 +1,13 @@
 // Which column has a name.
-use crate::BuilderColumn;
-use crate::Found;
 use crate::UnionBuilder;
-use union_array::Kind;
+use builder_columns::Found;
+use builder_columns::columns::no_column;
 use union_names::names::same_name;
 ghost use mathlib.Core.Path.{_≡_};
 ghost use lib.ListN.{length};
 ghost use Rattle.union_names.specs.Names.{place};
-ghost use Rattle.union_builder.specs.Builder.{namesOf, noBuilderColumn};
+ghost use Rattle.union_builder.specs.Builder.{namesOf};
 ghost use Rattle.union_builder.specs.Finding.{onlyNames, nothing, foundIn, Searchable};
-
-// The column of zeros.
-pub(crate) fn no_column() -> BuilderColumn
-    ensures { λ r. ⌜ r ≡ noBuilderColumn ⌝ }
-{
-    let kind = Kind::Int8;
-    BuilderColumn {
-        slots: 0,
-        size: 0,
-        kind: kind,
-        masked: false,
-    }
-}
 
 // No column has the name.
 fn none_found() -> Found

@@ -1,9 +1,9 @@
 // `finish_cloned` and `finish`: the array so far, its columns in order by name.
-use crate::BuilderColumn;
 use crate::Finished;
 use crate::UnionBuilder;
 use crate::builder::empty_builder;
 use crate::questions::builder_checked;
+use builder_columns::BuilderColumn;
 use union_array::Amounts;
 use union_array::Column;
 use union_array::Layout;

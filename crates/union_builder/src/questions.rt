@@ -1,6 +1,6 @@
 // Questions 15 and 16.
-use crate::BuilderColumn;
 use crate::UnionBuilder;
+use builder_columns::BuilderColumn;
 use union_array::Amounts;
 use union_array::Layout;
 ghost use mathlib.Core.Path.{_≡_};

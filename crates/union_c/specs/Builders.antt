@@ -6,7 +6,7 @@ use Rattle.bitmap.specs.Bits.{digit}
 use Rattle.union_array.specs.Types.{kindNumber, noArray}
 use Rattle.union_array.specs.Refusal.{ifYes}
 use Rattle.union_array.specs.Numbers.{kindFrom, layoutFrom, layoutNumber, isLayout, flagFrom, badNumber}
-use Rattle.union_builder.specs.declared.BuilderColumn.{BuilderColumn}
+use Rattle.builder_columns.specs.declared.BuilderColumn.{BuilderColumn}
 use Rattle.union_builder.specs.declared.UnionBuilder.{UnionBuilder}
 use Rattle.union_builder.specs.declared.Made.{Made}
 use Rattle.union_builder.specs.declared.Appended.{Appended}

@@ -14,6 +14,7 @@ use crate::CFlag;
 use crate::CNamePlace;
 use crate::CTypeNames;
 use crate::CValue;
+use builder_columns::BuilderColumn;
 use logical_nulls::SparseStrategy;
 use union_array::Column;
 use union_array::Flag;
@@ -24,7 +25,6 @@ use union_array::UnionArray;
 use union_array::Value;
 use union_array::kinds::kind_from;
 use union_array::kinds::kind_number;
-use union_builder::BuilderColumn;
 use union_builder::UnionBuilder;
 
 // The layout with a number; any other number is read as sparse.

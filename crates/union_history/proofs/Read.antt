@@ -24,9 +24,9 @@ use Rattle.union_array.specs.declared.Layout.the-variants.{Dense, Sparse}
 use Rattle.union_array.specs.declared.UnionArray.{UnionArray}
 use Rattle.union_array.specs.declared.Value.{Value}
 use Rattle.logical_nulls.specs.Mask.{logicalNullsOf, strategyOf}
+use Rattle.builder_columns.specs.declared.BuilderColumn.{BuilderColumn}
 use Rattle.union_builder.specs.Append.{isNone, orElse}
 use Rattle.union_builder.specs.Finish.{Named, assembled, ordered}
-use Rattle.union_builder.specs.declared.BuilderColumn.{BuilderColumn}
 use Rattle.union_history.specs.Claim.{ChainAccepted, Marks, SameColumn, Shows, SliceCall, chain, entryMissing, entrySlot, entryValue, lastCount, logArray, logColumn, maskOf, nameTold, slotSum, slotsOf, sumOf}
 use Rattle.union_history.specs.Listing.{InOrder}
 use Rattle.union_history.specs.Log.{Entry, Log, LogColumn, noEntry, noLogColumn}

@@ -1,5 +1,5 @@
 use native.Mathlib.Omega.{arith}
-use Rattle.union_builder.proofs.Asking.{small-product, words-small}
+use Rattle.builder_columns.proofs.Putting.{small-product, words-small}
 use Rattle.union_builder.proofs.Describing.{column-is}
 use borrow.Author.Needs.{needs}
 use Rattle.union_builder.proofs.finish.finished_column.Statement.{statement}

@@ -1,7 +1,7 @@
 -- The number given, 17, or where the name was found. Assumes nothing.
 use mathlib.Core.Path.{_∙_}
 use borrow.Author.Needs.{needs}
-use Rattle.union_builder.proofs.Asking.{denied, granted}
+use Rattle.builder_columns.proofs.Tests.{denied, granted}
 use Rattle.union_builder.proofs.Plans.{name-short, plan-no, plan-17, plan-rest}
 use Rattle.union_builder.proofs.planning.plan.Statement.{statement}
 use Rattle.union_builder.proofs.planning.plan.Tie as tie

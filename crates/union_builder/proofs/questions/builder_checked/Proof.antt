@@ -6,7 +6,8 @@ use borrow.Author.Needs.{needs}
 use Rattle.bitmap.specs.Lists.{every}
 use Rattle.union_builder.specs.Builder.{UnionBuilder, columnFits}
 use Rattle.union_builder.specs.Finding.{numbersFit}
-use Rattle.union_builder.proofs.Asking.{denied, granted, no-numbers, no-columns, then-lent, numbers-yes}
+use Rattle.builder_columns.proofs.Tests.{denied, granted}
+use Rattle.union_builder.proofs.Asking.{no-numbers, no-columns, then-lent, numbers-yes}
 use Rattle.union_builder.proofs.questions.builder_checked.Statement.{statement}
 use Rattle.union_builder.proofs.questions.builder_checked.Tie as tie
 

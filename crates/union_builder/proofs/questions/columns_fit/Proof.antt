@@ -8,7 +8,8 @@ use borrow.Author.Needs.{needs}
 use Rattle.bitmap.specs.Lists.{every}
 use Rattle.bitmap.proofs.Tables.{every-no, every-more}
 use Rattle.union_builder.specs.Builder.{columnFits}
-use Rattle.union_builder.proofs.Asking.{fits-column, denied, granted}
+use Rattle.builder_columns.proofs.Tests.{denied, granted}
+use Rattle.union_builder.proofs.Asking.{fits-column}
 use Rattle.union_builder.proofs.questions.columns_fit.Statement.{statement}
 use Rattle.union_builder.proofs.questions.columns_fit.Tie as tie
 

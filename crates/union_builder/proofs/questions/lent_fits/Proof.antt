@@ -3,7 +3,8 @@ use native.Mathlib.Omega.{arith}
 use borrow.Author.Needs.{needs}
 use borrow.Author.Tests.{le-leb, lt-leb}
 use Rattle.union_builder.specs.Builder.{question16}
-use Rattle.union_builder.proofs.Asking.{small-product, words-small, last-16}
+use Rattle.builder_columns.proofs.Putting.{small-product, words-small}
+use Rattle.union_builder.proofs.Asking.{last-16}
 use Rattle.union_builder.proofs.questions.lent_fits.Statement.{statement}
 use Rattle.union_builder.proofs.questions.lent_fits.Tie as tie
 
