@@ -9,6 +9,7 @@ use Rattle.union_array.specs.declared.Kind.{Kind}
 use Rattle.union_array.specs.declared.Kind.the-variants.{Int8}
 pub use Rattle.builder_columns.specs.declared.BuilderColumn.{BuilderColumn}
 
+-- the column of zeros
 abbrev pub noBuilderColumn : BuilderColumn
 noBuilderColumn = record { slots = 0; size = 0; kind = Int8; masked = false }
 
