@@ -23,11 +23,11 @@ use Rattle.union_array.specs.Refusal.{no, _then_, ifYes}
 use Rattle.union_array.specs.Slots.{inUse, all, childAt, slotAt, present, nullsIn, nullIn, slotNull}
 use Rattle.union_array.specs.Questions.{checked, partIn, columnIn, maskIn}
 use Rattle.union_array.proofs.Accepted.{all-accepted}
-use Rattle.null_route.specs.Setting.{settingNumber, settingOf}
-use Rattle.null_route.specs.declared.Choice.{Choice}
-use Rattle.null_route.specs.Route.{cheaper, sparseRoute, withNulls, fullyNulls, routeOf}
-use Rattle.null_route.specs.declared.Fields.{Fields}
-use Rattle.null_route.specs.Fields.{fieldsOf}
+use Rattle.null_strategy.specs.Setting.{settingNumber, settingOf}
+use Rattle.null_strategy.specs.declared.Choice.{Choice}
+use Rattle.null_strategy.specs.Route.{cheaper, sparseRoute, withNulls, fullyNulls, routeOf}
+use Rattle.null_strategy.specs.declared.Fields.{Fields}
+use Rattle.null_strategy.specs.Fields.{fieldsOf}
 use Rattle.logical_nulls.specs.Mask.{LogicalNulls, SparseStrategy, Gather, SkipOne, SkipWithoutNulls, SkipFullyNull, Masked, withWords, refusedWith, notMasked, maskedBy, answerOn, question13, question14, applies, mayRun, logicalNullsOf, strategyRoute, strategyOf}
 use Rattle.logical_nulls.specs.Ready.{reads, Ready, absent}
 use Rattle.logical_nulls.proofs.Masks.{null-same}

@@ -27,9 +27,9 @@ use Rattle.union_array.specs.Questions.{validId, distinct, maskIn, within, with
 use Rattle.union_array.specs.Lookup.{orNone}
 use Rattle.union_array.proofs.Columns.{found-id}
 use Rattle.union_array.proofs.Accepted.{ColumnAccepted, AllAccepted, child-accepted}
-use Rattle.null_route.specs.declared.Field.{Field}
-use Rattle.null_route.specs.Fields.{noField, stateOf, fieldOf, asColumn}
-use Rattle.null_route.proofs.FieldStates.{all-present}
+use Rattle.null_strategy.specs.declared.Field.{Field}
+use Rattle.null_strategy.specs.Fields.{noField, stateOf, fieldOf, asColumn}
+use Rattle.null_strategy.proofs.FieldStates.{all-present}
 use Rattle.logical_nulls.specs.Steps.{wordOf, fieldPresent, idAt}
 use Rattle.logical_nulls.proofs.Selecting.{span-cut}
 use Rattle.logical_nulls.proofs.Strategies.{its-child, its-slot, its-bit}

@@ -23,11 +23,11 @@ use Rattle.union_array.specs.Questions.{validId, maskIn}
 use Rattle.union_array.specs.Lookup.{orNone}
 use Rattle.union_array.proofs.Columns.{all-found}
 use Rattle.union_array.proofs.Accepted.{AllAccepted, all-accepted, column-at, slots-at}
-use Rattle.null_route.specs.Route.{fullyNull, fullyNulls}
-use Rattle.null_route.specs.declared.Field.{Field}
-use Rattle.null_route.specs.declared.Fields.{Fields}
-use Rattle.null_route.specs.Fields.{noField, stateOf, fieldOf, fieldAt, asColumn, noFields, inList}
-use Rattle.null_route.proofs.FieldStates.{fields-in, many-all, none-present, not-full}
+use Rattle.null_strategy.specs.Route.{fullyNull, fullyNulls}
+use Rattle.null_strategy.specs.declared.Field.{Field}
+use Rattle.null_strategy.specs.declared.Fields.{Fields}
+use Rattle.null_strategy.specs.Fields.{noField, stateOf, fieldOf, fieldAt, asColumn, noFields, inList}
+use Rattle.null_strategy.proofs.FieldStates.{fields-in, many-all, none-present, not-full}
 use Rattle.logical_nulls.specs.Mask.{LogicalNulls, withWords, maskedBy, answerOn}
 use Rattle.logical_nulls.specs.Steps.{wordsOf, stepAt, Held, ValidIds, FieldsReady}
 use Rattle.logical_nulls.specs.Table.{tableOf, childSlot, gatheredAt, Gathers}

@@ -18,8 +18,8 @@ use Rattle.bitmap.proofs.Words.{pack-ext, pack-none, and-pack, or-pack, not-pac
 use Rattle.union_array.specs.declared.Column.{Column}
 use Rattle.union_array.specs.Buffers.{Buffers, onlyMasks}
 use Rattle.union_array.specs.Slots.{present, presenceChunk}
-use Rattle.null_route.specs.declared.Field.{Field}
-use Rattle.null_route.specs.Fields.{noField, asColumn}
+use Rattle.null_strategy.specs.declared.Field.{Field}
+use Rattle.null_strategy.specs.Fields.{noField, asColumn}
 use Rattle.logical_nulls.specs.Steps.{Taken, All, WithNulls, NotFull, any, wordOf, fieldPresent, takes, idAt, orOf, chosen, selectedAt, presentAt, skipOneAt, skipWithoutAt, skipFullyAt}
 
 -- ---- any

@@ -12,8 +12,8 @@ use lib.Bits.{bitAnd, bitOr}
 use Rattle.bitmap.specs.Bits.{selectionOf}
 use Rattle.union_array.specs.Buffers.{onlyMasks}
 use Rattle.union_array.specs.Slots.{presenceChunk}
-use Rattle.null_route.specs.declared.Field.{Field}
-use Rattle.null_route.specs.Fields.{noField, asColumn}
+use Rattle.null_strategy.specs.declared.Field.{Field}
+use Rattle.null_strategy.specs.Fields.{noField, asColumn}
 use Rattle.logical_nulls.specs.Steps.{Taken, All, WithNulls, NotFull, takes, wordOf, skipOneAt, skipWithoutAt, skipFullyAt, stepAt, overOf, orOf, inverse, fieldMask, skipOneWord, skipWithoutWord, skipFullyWord, stepWord, HaveIds}
 use Rattle.logical_nulls.proofs.Selecting.{word-selection, selectedTo, presentTo, selected-none, present-none, selected-more, present-more, one-word, without-word, fully-word}
 

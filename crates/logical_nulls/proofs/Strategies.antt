@@ -22,9 +22,9 @@ use Rattle.union_array.specs.Slots.{inUse, columnOf, isSome, typeIdAt, offsetAt
 use Rattle.union_array.specs.Lookup.{orNone}
 use Rattle.union_array.specs.Questions.{distinct}
 use Rattle.union_array.proofs.Accepted.{AllAccepted, child-is, slot-in}
-use Rattle.null_route.specs.declared.Field.{Field}
-use Rattle.null_route.specs.Fields.{noField, stateOf, fieldOf}
-use Rattle.null_route.proofs.FieldStates.{all-present, none-present}
+use Rattle.null_strategy.specs.declared.Field.{Field}
+use Rattle.null_strategy.specs.Fields.{noField, stateOf, fieldOf}
+use Rattle.null_strategy.proofs.FieldStates.{all-present, none-present}
 use Rattle.logical_nulls.specs.Steps.{any, fieldPresent, skipOneAt, skipWithoutAt, skipFullyAt}
 use Rattle.logical_nulls.proofs.Selecting.{any-ext, any-less}
 

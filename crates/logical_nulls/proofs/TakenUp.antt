@@ -13,9 +13,9 @@ use lib.ListN.{getD, take, drop, length, set, replicate, length-map, length-appe
 use lib.Seq.{take-suc, take-at, getD-take, length-take-le}
 use Rattle.bitmap.specs.Bits.{sameId}
 use Rattle.union_array.specs.Questions.{validId}
-use Rattle.null_route.specs.declared.Field.{Field}
-use Rattle.null_route.specs.declared.Fields.{Fields}
-use Rattle.null_route.specs.Fields.{noField, noFields, inList}
+use Rattle.null_strategy.specs.declared.Field.{Field}
+use Rattle.null_strategy.specs.declared.Fields.{Fields}
+use Rattle.null_strategy.specs.Fields.{noField, noFields, inList}
 use Rattle.logical_nulls.specs.Steps.{Taken, All, WithNulls, NotFull, TakenFields, any, fieldPresent, takes, idAt, selectedAt, presentAt, skipOneAt, skipWithoutAt, skipFullyAt, stepAt, overOf, noIds, inTaken, takenOf, takenFieldsOf, HaveIds, Held, TakenReady, FieldsReady}
 use Rattle.logical_nulls.proofs.Entries.{valid-plain, plain-is}
 

@@ -12,8 +12,8 @@ use Rattle.union_array.specs.Buffers.{Buffers}
 use Rattle.union_array.specs.Refusal.{no, _then_, ifYes}
 use Rattle.union_array.specs.Slots.{slotNull}
 use Rattle.union_array.specs.Questions.{checked}
-use Rattle.null_route.specs.Setting.{settingNumber, settingOf}
-use Rattle.null_route.specs.Route.{withNulls, routeOf}
+use Rattle.null_strategy.specs.Setting.{settingNumber, settingOf}
+use Rattle.null_strategy.specs.Route.{withNulls, routeOf}
 pub use Rattle.logical_nulls.specs.declared.LogicalNulls.{LogicalNulls}
 pub use Rattle.logical_nulls.specs.declared.SparseStrategy.{SparseStrategy}
 pub use Rattle.logical_nulls.specs.declared.SparseStrategy.the-variants.{Gather, SkipOne, SkipWithoutNulls, SkipFullyNull}

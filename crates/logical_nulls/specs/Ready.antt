@@ -9,9 +9,9 @@ use Rattle.bitmap.specs.Bits.{wordsFor}
 use Rattle.union_array.specs.declared.UnionArray.{UnionArray}
 use Rattle.union_array.specs.Buffers.{Buffers, buffersOf, onlyMasks}
 use Rattle.union_array.specs.Questions.{checked}
-use Rattle.null_route.specs.Route.{fullyNulls}
-use Rattle.null_route.specs.declared.Fields.{Fields}
-use Rattle.null_route.specs.Fields.{fieldsOf}
+use Rattle.null_strategy.specs.Route.{fullyNulls}
+use Rattle.null_strategy.specs.declared.Fields.{Fields}
+use Rattle.null_strategy.specs.Fields.{fieldsOf}
 use Rattle.logical_nulls.specs.Mask.{LogicalNulls}
 
 -- lent memory of which type ids, offsets and mask words matter

@@ -13,9 +13,9 @@ use Rattle.bitmap.specs.Bits.{pack, wordsFor, sameId, selectionOf}
 use Rattle.union_array.specs.Buffers.{onlyMasks}
 use Rattle.union_array.specs.Slots.{present}
 use Rattle.union_array.specs.Questions.{validId, maskIn}
-use Rattle.null_route.specs.declared.Field.{Field}
-use Rattle.null_route.specs.declared.Fields.{Fields}
-use Rattle.null_route.specs.Fields.{noField, noFields, asColumn}
+use Rattle.null_strategy.specs.declared.Field.{Field}
+use Rattle.null_strategy.specs.declared.Fields.{Fields}
+use Rattle.null_strategy.specs.Fields.{noField, noFields, asColumn}
 pub use Rattle.logical_nulls.specs.declared.Taken.{Taken}
 pub use Rattle.logical_nulls.specs.declared.Taken.the-variants.{All, WithNulls, NotFull}
 pub use Rattle.logical_nulls.specs.declared.TakenFields.{TakenFields}

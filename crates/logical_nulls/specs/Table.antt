@@ -11,8 +11,8 @@ use Rattle.union_array.specs.declared.Layout.{Layout}
 use Rattle.union_array.specs.declared.Layout.the-variants.{Dense}
 use Rattle.union_array.specs.Types.{byLayout}
 use Rattle.union_array.specs.Questions.{maskIn}
-use Rattle.null_route.specs.declared.Field.{Field}
-use Rattle.null_route.specs.Fields.{noField, asColumn}
+use Rattle.null_strategy.specs.declared.Field.{Field}
+use Rattle.null_strategy.specs.Fields.{noField, asColumn}
 use Rattle.logical_nulls.specs.Steps.{fieldPresent, idAt}
 
 -- the no-nulls entry: no mask, and more slots than a child has

@@ -6,9 +6,9 @@ mod table;
 mod taking;
 mod words;
 
-use null_route::Field;
-pub use null_route::Processor;
-pub use null_route::Setting;
+use null_strategy::Field;
+pub use null_strategy::Processor;
+pub use null_strategy::Setting;
 
 // A strategy for the words of a mask; all but Gather are for sparse unions.
 pub enum SparseStrategy {

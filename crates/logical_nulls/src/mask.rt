@@ -5,10 +5,10 @@ ghost use Rattle.logical_nulls.specs.Mask.{withWords, refusedWith, logic
 ghost use Rattle.logical_nulls.specs.Ready.{absent};
 use crate::LogicalNulls;
 use crate::words;
-use null_route::Processor;
-use null_route::Setting;
-use null_route::route;
-use null_route::states;
+use null_strategy::Processor;
+use null_strategy::Setting;
+use null_strategy::route;
+use null_strategy::states;
 use union_array::UnionArray;
 use union_array::check;
 

@@ -8,7 +8,7 @@ use crate::LogicalNulls;
 use crate::SparseStrategy;
 use crate::mask;
 use crate::words;
-use null_route::states;
+use null_strategy::states;
 use union_array::Layout;
 use union_array::UnionArray;
 use union_array::check;

@@ -3,12 +3,12 @@ ghost use mathlib.Core.Path.{_≡_};
 ghost use Prim.Native.Nat.{_+_, _^_, _<_, _≤_};
 ghost use lib.ListN.{length};
 ghost use Rattle.bitmap.specs.Bits.{wordsFor};
-ghost use Rattle.null_route.specs.Fields.{inList};
+ghost use Rattle.null_strategy.specs.Fields.{inList};
 ghost use Rattle.logical_nulls.specs.Steps.{wordsOf, ValidIds};
 ghost use Rattle.logical_nulls.specs.Table.{tableOf, childSlot, gatheredAt, Reach, Gathers};
-use null_route::Field;
-use null_route::Fields;
-use null_route::states;
+use null_strategy::Field;
+use null_strategy::Fields;
+use null_strategy::states;
 use union_array::Layout;
 use union_array::presence;
 

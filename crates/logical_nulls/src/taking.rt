@@ -1,12 +1,12 @@
 // The fields that a strategy takes up.
 ghost use mathlib.Core.Path.{_≡_};
 ghost use Prim.Native.Nat.{_≤_};
-ghost use Rattle.null_route.specs.Fields.{inList};
+ghost use Rattle.null_strategy.specs.Fields.{inList};
 ghost use Rattle.logical_nulls.specs.Steps.{takes, overOf, takenFieldsOf, ValidIds};
 use crate::Taken;
 use crate::TakenFields;
-use null_route::Field;
-use null_route::Fields;
+use null_strategy::Field;
+use null_strategy::Fields;
 
 // What the strategy of a route takes up.
 pub(crate) fn over_of(route: u8) -> Taken

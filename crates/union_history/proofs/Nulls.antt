@@ -25,9 +25,9 @@ use Rattle.union_array.specs.declared.Layout.{Layout}
 use Rattle.union_array.specs.declared.Layout.the-variants.{Dense, Sparse}
 use Rattle.union_array.specs.declared.UnionArray.{UnionArray}
 use Rattle.union_array.specs.declared.Value.{Value}
-use Rattle.null_route.specs.Route.{cheaper, fullyNulls, hasNull, howMany, routeOf, sparseRoute, withNulls}
-use Rattle.null_route.specs.Setting.{question12, settingOf}
-use Rattle.null_route.specs.declared.Choice.{Choice}
+use Rattle.null_strategy.specs.Route.{cheaper, fullyNulls, hasNull, howMany, routeOf, sparseRoute, withNulls}
+use Rattle.null_strategy.specs.Setting.{question12, settingOf}
+use Rattle.null_strategy.specs.declared.Choice.{Choice}
 use Rattle.logical_nulls.specs.Mask.{logicalNullsOf, maskedBy, question14, strategyOf, strategyRoute, withWords}
 use Rattle.logical_nulls.specs.declared.SparseStrategy.{SparseStrategy}
 use Rattle.logical_nulls.specs.declared.SparseStrategy.the-variants.{Gather, SkipFullyNull, SkipOne, SkipWithoutNulls}

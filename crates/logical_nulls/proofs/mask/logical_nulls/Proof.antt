@@ -3,9 +3,9 @@ use Prim.Native.Nat.{ℕ}
 use native.Mathlib.Omega.{arith}
 use Rattle.union_array.specs.Buffers.{Buffers, buffersOf, onlyMasks}
 use Rattle.union_array.specs.Questions.{checked}
-use Rattle.null_route.specs.Setting.{settingNumber, settingTold, settingOf}
-use Rattle.null_route.specs.Route.{routeOf}
-use Rattle.null_route.proofs.Settings.{setting-refused, setting-taken}
+use Rattle.null_strategy.specs.Setting.{settingNumber, settingTold, settingOf}
+use Rattle.null_strategy.specs.Route.{routeOf}
+use Rattle.null_strategy.proofs.Settings.{setting-refused, setting-taken}
 use Rattle.logical_nulls.specs.Mask.{maskedBy}
 use Rattle.logical_nulls.proofs.Calls.{too-few, enough, mask-unchecked, mask-12, mask-13, mask-taken, mask-absent, masked-same, route-same, fields-ok, counted-ok, mask-ready}
 use borrow.Author.Needs.{needs}

@@ -7,8 +7,8 @@ use Prim.Native.Nat.{ℕ, _-_, _≤_, _<_}
 use native.Mathlib.Omega.{arith}
 use lib.ListN.{length, getD, take, set, length-map}
 use lib.IntN.{ℤ, natAbs}
-use Rattle.null_route.specs.declared.Field.{Field}
-use Rattle.null_route.specs.Fields.{noField}
+use Rattle.null_strategy.specs.declared.Field.{Field}
+use Rattle.null_strategy.specs.Fields.{noField}
 use Rattle.logical_nulls.specs.Table.{tableOf}
 use Rattle.bitmap.proofs.Ids.{id-is, id-at, id-casts}
 use Rattle.logical_nulls.proofs.Entries.{valid-plain, table-none, table-yes, table-no}

@@ -18,7 +18,7 @@ use Rattle.bitmap.proofs.OneBit.{none-yet, or-here, not-here}
 use Rattle.bitmap.proofs.Tables.{retable-none, retable-store, retable-length}
 use Rattle.union_array.specs.declared.Column.{Column}
 use Rattle.union_array.specs.Questions.{maskIn}
-use Rattle.null_route.specs.Fields.{noField, asColumn}
+use Rattle.null_strategy.specs.Fields.{noField, asColumn}
 use Rattle.logical_nulls.specs.Steps.{wordOf}
 use Rattle.logical_nulls.specs.Table.{childSlot, gatheredAt}
 use Rattle.bitmap.proofs.Ids.{id-is, id-at, id-casts}

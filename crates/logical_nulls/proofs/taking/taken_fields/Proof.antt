@@ -7,7 +7,7 @@ use native.Mathlib.Omega.{arith}
 use lib.IntN.{natAbs}
 use lib.ListN.{length, getD, take, length-map}
 use Rattle.bitmap.proofs.Ids.{id-is, id-casts, id-index}
-use Rattle.null_route.specs.Fields.{noField}
+use Rattle.null_strategy.specs.Fields.{noField}
 use Rattle.logical_nulls.specs.Steps.{takenFieldsOf}
 use Rattle.logical_nulls.proofs.Entries.{valid-plain}
 use Rattle.logical_nulls.proofs.TakenUp.{taken-none, taken-more, taken-same}

@@ -3,8 +3,8 @@ use mathlib.Core.Path.{_≡_, sym, ap, _∙_}
 use mathlib.Core.List.{List}
 use native.Mathlib.Omega.{arith}
 use lib.ListN.{length, length-map}
-use Rattle.null_route.specs.declared.Field.{Field}
-use Rattle.null_route.specs.Fields.{inList}
+use Rattle.null_strategy.specs.declared.Field.{Field}
+use Rattle.null_strategy.specs.Fields.{inList}
 use Rattle.logical_nulls.specs.Steps.{Taken, wordsOf, stepAt, overOf, takenFieldsOf}
 use Rattle.logical_nulls.proofs.TakenUp.{in-taken, words-need, step-taken}
 use Rattle.logical_nulls.proofs.Writing.{words-ext}
