@@ -1,13 +1,12 @@
 //! Appends, and finish_cloned.
 
 use crate::clock::{Measure, timed};
-use crate::inputs::{self, Readings};
-use crate::interface::CBuilder;
-use crate::plain::Lent;
+use crate::inputs::Readings;
 use crate::report::{Report, Table};
 use crate::{layout, original, ported};
 use arrow_array::UnionArray;
 use arrow_array::builder::{ArrayBuilder, UnionBuilder};
+use cangxole::ffi;
 use std::hint::black_box;
 
 /// The slots of a builder.
@@ -16,27 +15,27 @@ pub const SLOTS: usize = 4096;
 /// Both builders, filled with the same readings.
 pub struct Filled {
     pub original: UnionBuilder,
-    pub port: CBuilder,
-    pub lent: Lent,
+    pub port: ffi::Builder,
+    pub lent: ffi::Buffers,
 }
 
 pub fn filled(dense: bool, readings: &Readings) -> Filled {
-    let count = readings.starts.len();
+    let count = readings.len();
     let mut original = original::with_capacity(dense, count);
     original::append(&mut original, &original::list(readings));
-    let mut lent = inputs::lent(count, readings.fields);
+    let mut lent = ffi::Buffers::for_builder(count, readings.fields);
     let mut refusals = vec![0; count];
     let builder = ported::with_capacity(dense, count, readings.fields, &lent);
-    let built = ported::append_run(builder, readings, 0, count, &mut lent, &mut refusals);
+    let built = ffi::builder_appends(&builder, &readings.run, &mut lent, &mut refusals);
     assert!(built.refusal == 0 && refusals.iter().all(|refusal| *refusal == 0), "accepted readings");
     Filled { original, port: built.builder, lent }
 }
 
 /// The unions that both builders describe; every slot is compared.
-pub fn unions(filled: &Filled) -> (UnionArray, crate::interface::CArray) {
+pub fn unions(filled: &Filled) -> (UnionArray, ffi::Array) {
     let original = filled.original.finish_cloned();
     let original = original.as_any().downcast_ref::<UnionArray>().expect("a union").clone();
-    let finished = ported::finish_cloned(filled.port, &filled.lent);
+    let finished = ffi::builder_finish_cloned(&filled.port, &filled.lent);
     assert_eq!(finished.refusal, 0, "an accepted finish");
     crate::arrays::compare(&original, &finished.array, &filled.lent);
     (original, finished.array)
@@ -51,8 +50,9 @@ fn append_line(measure: &mut Measure, dense: bool, fields: usize, seed: u64) -> 
     unions(&first);
 
     let empty = ported::with_capacity(dense, SLOTS, fields, &first.lent);
-    let opened = ported::append_each(empty, &readings, 0, fields, &mut first.lent);
-    let each = ported::append_each(opened, &readings, fields, SLOTS, &mut first.lent);
+    let (opening, rest) = readings.split(fields);
+    let opened = ported::append_each(empty, &opening, &mut first.lent);
+    let each = ported::append_each(opened, &rest, &mut first.lent);
     assert_eq!(each, first.port, "the run and the calls give one builder");
     unions(&Filled { port: each, ..filled(dense, &readings) });
 
@@ -64,9 +64,8 @@ fn append_line(measure: &mut Measure, dense: bool, fields: usize, seed: u64) -> 
         let (time, ()) = timed(timed_calls, || original::append(&mut builder, &list[fields..]));
         time
     };
-    let mut run =
-        || timed(timed_calls, || ported::append_run(opened, &readings, fields, SLOTS, &mut run_lent, &mut refusals)).0;
-    let mut single = || timed(timed_calls, || ported::append_each(opened, &readings, fields, SLOTS, &mut first.lent)).0;
+    let mut run = || timed(timed_calls, || ffi::builder_appends(&opened, &rest, &mut run_lent, &mut refusals)).0;
+    let mut single = || timed(timed_calls, || ported::append_each(opened, &rest, &mut first.lent)).0;
     measure.least([&mut rust, &mut run, &mut single])
 }
 
@@ -96,14 +95,15 @@ fn finish_line(measure: &mut Measure, dense: bool, fields: usize, seed: u64) -> 
     let filled = filled(dense, &Readings::new(fields, SLOTS, seed));
     unions(&filled);
     const CALLS: usize = 20;
+    let (builder, lent) = (&filled.port, &filled.lent);
     let mut rust = || timed(CALLS, || (0..CALLS).for_each(|_| drop(black_box(filled.original.finish_cloned())))).0;
     let mut port =
-        || timed(CALLS, || (0..CALLS).for_each(|_| _ = black_box(ported::finish_cloned(filled.port, &filled.lent)))).0;
+        || timed(CALLS, || (0..CALLS).for_each(|_| _ = black_box(ffi::builder_finish_cloned(builder, lent)))).0;
     measure.least([&mut rust, &mut port])
 }
 
 pub fn finish_cloned(measure: &mut Measure, report: &mut Report, seed: u64) {
-    let mut table = Table::new(
+    let table = Table::new(
         "finish_cloned",
         &format!(
             "Nanoseconds a call, {SLOTS} slots. The original copies every buffer; the port describes lent memory. \
@@ -111,12 +111,5 @@ pub fn finish_cloned(measure: &mut Measure, report: &mut Report, seed: u64) {
         ),
         &["layout", "columns", "Rust", "port", "ratio"],
     );
-    for dense in [true, false] {
-        for fields in [4, 64] {
-            let [rust, port] = finish_line(measure, dense, fields, seed);
-            table.line(&[layout(dense), &fields.to_string()], rust, &[port]);
-            report.bar("finish_cloned", &format!("{}, {fields} columns", layout(dense)), rust / port);
-        }
-    }
-    report.table(table);
+    report.side_by_side(table, &[4, 64], |dense, fields| finish_line(measure, dense, fields, seed));
 }

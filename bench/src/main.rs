@@ -18,24 +18,19 @@ mod report;
 mod results;
 
 #[allow(dead_code)]
-#[path = "../../differential/src/port/interface.rs"]
-#[macro_use]
-mod interface;
+#[path = "../../differential/src/arguments.rs"]
+mod arguments;
 #[allow(dead_code)]
-#[path = "../../differential/src/plain.rs"]
-mod plain;
+#[path = "../../differential/src/random.rs"]
+mod random;
 
+use arguments::{flag, number, word};
 use clock::Measure;
 use report::Report;
 use results::{Build, GATHER_COST, Results};
 
 pub fn layout(dense: bool) -> &'static str {
     if dense { "dense" } else { "sparse" }
-}
-
-/// The argument after the one with this name.
-pub fn word(name: &str) -> Option<String> {
-    std::env::args().skip_while(|argument| argument != name).nth(1)
 }
 
 type Part = (&'static str, fn(&mut Measure, &mut Report, u64));
@@ -55,8 +50,7 @@ const PARTS: [Part; 9] = [
 fn measured() -> Results {
     clock::keep_freed_memory();
     arrow_array::setting::set_gather_cost(GATHER_COST);
-    let seed = word("--seed").map_or(1, |seed| seed.parse().expect("a number"));
-    let seconds = word("--seconds").map_or(1.0, |seconds| seconds.parse().expect("a number"));
+    let (seed, seconds) = (number("--seed", 1), number("--seconds", 1.0));
     let only = word("--only").unwrap_or_default();
     let mut measure = Measure { budget: seconds, fewest: usize::MAX, apart: 0.0 };
     let mut report = Report::default();
@@ -79,7 +73,7 @@ fn main() {
         std::env::args().skip_while(|argument| argument != "--page").skip(1).map(|path| Results::read(&path)).collect();
     let report = results::together(&all);
     let text = page::text(&all, &report);
-    if std::env::args().any(|argument| argument == "--write") {
+    if flag("--write") {
         page::write(&word("--root").expect("--root DIR"), &text, &picture::svg(&report.bars, &all));
     }
     println!("{text}");

@@ -3,13 +3,13 @@
 use crate::arrays::SLOTS;
 use crate::clock::{Measure, timed};
 use crate::inputs::{self, Described, Nulls, Order};
-use crate::interface::CNulls;
 use crate::report::{Report, Table};
 use crate::results::GATHER_COST;
-use crate::{layout, original, ported};
+use crate::{layout, original};
 use arrow_array::setting::Strategy;
 use arrow_array::{Array, UnionArray};
 use arrow_buffer::NullBuffer;
+use cangxole::ffi;
 use std::hint::black_box;
 
 /// The nulls of column k of `fields`.
@@ -47,7 +47,7 @@ fn mask_line(
     measure: &mut Measure,
     union: &Described,
     mask: impl Fn(&UnionArray) -> Option<NullBuffer>,
-    call: impl Fn(&mut [u64]) -> CNulls,
+    call: impl Fn(&mut [u64]) -> ffi::Nulls,
 ) -> ([f64; 3], u8) {
     let parts = original::parts(union);
     let array = original::try_new(parts.clone());
@@ -86,7 +86,7 @@ fn nulls_line(
         measure,
         &union,
         |array| array.logical_nulls(),
-        |out| ported::logical_nulls(&union.array, GATHER_COST.into(), &union.lent, out),
+        |out| ffi::logical_nulls(&union.array, GATHER_COST.into(), &union.lent, out),
     );
     let [setting, fields, route] = [GATHER_COST.to_string(), fields.to_string(), route.to_string()];
     table.mask_line(&[&setting, columns, layout(dense), &fields, &route], times);
@@ -173,7 +173,7 @@ pub fn strategies(measure: &mut Measure, report: &mut Report, seed: u64) {
                 measure,
                 &union,
                 |array| by_strategy(array, strategy),
-                |out| ported::strategy(&union.array, route, &union.lent, out),
+                |out| ffi::strategy(&union.array, route, &union.lent, out),
             );
             assert_eq!(answered, route, "the strategy's own route");
             table.mask_line(&[name, layout(dense), &fields.to_string()], times);

@@ -29,7 +29,7 @@ pub fn append(builder: &mut UnionBuilder, readings: &[(&str, Option<f64>)]) {
 
 /// The readings as the original takes them.
 pub fn list(readings: &Readings) -> Vec<(&str, Option<f64>)> {
-    (0..readings.starts.len()).map(|k| (readings.name(k), readings.value(k))).collect()
+    (0..readings.len()).map(|k| (readings.name(k), readings.value(k))).collect()
 }
 
 /// A slot's id, 1 if it is missing, and its bits (0 when missing), as a run of the port tells them.

@@ -2,20 +2,20 @@
 
 use crate::clock::{Measure, timed};
 use crate::inputs::Readings;
-use crate::interface::{CArray, CBuilder};
 use crate::report::{Report, Table};
 use crate::{builders, ported};
+use cangxole::ffi::{Array, Builder};
 use std::hint::black_box;
 
 const CALLS: usize = 4096;
 
 #[inline(never)]
-extern "C" fn taken(array: CArray) -> usize {
+extern "C" fn taken(array: Array) -> usize {
     black_box(&array).count
 }
 
 #[inline(never)]
-extern "C" fn handed_back(builder: CBuilder) -> CBuilder {
+extern "C" fn handed_back(builder: Builder) -> Builder {
     *black_box(&builder)
 }
 
@@ -32,7 +32,7 @@ pub fn passing(measure: &mut Measure, report: &mut Report, seed: u64) {
          can take less.",
         &["handed over", "bytes", "time"],
     );
-    table.time("an array, in", size_of::<CArray>(), take);
-    table.time("a builder, in and back", size_of::<CBuilder>(), back);
+    table.time("an array, in", size_of::<Array>(), take);
+    table.time("a builder, in and back", size_of::<Builder>(), back);
     report.table(table);
 }

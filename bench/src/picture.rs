@@ -104,6 +104,18 @@ fn line(svg: &mut String, scale: &Scale, y: f64, line: &Bar) {
     }
 }
 
+/// What the picture tells, the builds, and which side of 1 is whose.
+fn heading(svg: &mut String, scale: &Scale, all: &[Results]) {
+    let build =
+        |Results { build, .. }: &Results| format!("{} (logical_nulls at setting {})", build.processor, build.cost);
+    let builds: Vec<String> = all.iter().map(build).collect();
+    let builds = format!("The Rust built for, from the upper bar on: {}", builds.join(", "));
+    text(svg, "title", "start", 20.0, 30.0, "How many times as fast as the Rust the port is");
+    text(svg, "faint", "start", 20.0, 50.0, &builds);
+    text(svg, "faint", "end", scale.x(1.0) - 10.0, 76.0, "the Rust ahead");
+    text(svg, "faint", "start", scale.x(1.0) + 10.0, 76.0, "the port ahead");
+}
+
 pub fn svg(bars: &[Bar], all: &[Results]) -> String {
     let scale = Scale::of(bars);
     let mut groups: Vec<&str> = Vec::new();
@@ -120,21 +132,7 @@ pub fn svg(bars: &[Bar], all: &[Results]) -> String {
          role=\"img\" aria-label=\"The port's speed beside the Rust's\">\n<style>\n{STYLE}</style>\n"
     );
     writeln!(svg, "<rect class=\"page\" width=\"{WIDTH}\" height=\"{height}\"/>").unwrap();
-    text(&mut svg, "title", "start", 20.0, 30.0, "How many times as fast as the Rust the port is");
-    let builds: Vec<String> = all
-        .iter()
-        .map(|Results { build, .. }| format!("{} (logical_nulls at setting {})", build.processor, build.cost))
-        .collect();
-    text(
-        &mut svg,
-        "faint",
-        "start",
-        20.0,
-        50.0,
-        &format!("The Rust built for, from the upper bar on: {}", builds.join(", ")),
-    );
-    text(&mut svg, "faint", "end", scale.x(1.0) - 10.0, 76.0, "the Rust ahead");
-    text(&mut svg, "faint", "start", scale.x(1.0) + 10.0, 76.0, "the port ahead");
+    heading(&mut svg, &scale, all);
     grid(&mut svg, &scale, bottom);
     let mut y = TOP;
     for group in groups {

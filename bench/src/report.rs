@@ -1,5 +1,7 @@
 //! What was measured: tables of times and ratios, and the bars of the picture.
 
+use crate::layout;
+
 /// A table: what it tells, the heads of its columns, its lines.
 pub struct Table {
     pub title: String,
@@ -99,6 +101,19 @@ pub struct Report {
 impl Report {
     pub fn table(&mut self, table: Table) {
         self.tables.push(table)
+    }
+
+    /// A table with a line and a bar for each layout and number of columns: the original's time and the port's.
+    pub fn side_by_side(&mut self, mut table: Table, counts: &[usize], mut line: impl FnMut(bool, usize) -> [f64; 2]) {
+        let (group, columns) = (table.title.clone(), table.head[1].clone());
+        for dense in [true, false] {
+            for count in counts {
+                let [rust, port] = line(dense, *count);
+                table.line(&[layout(dense), &count.to_string()], rust, &[port]);
+                self.bar(&group, &format!("{}, {count} {columns}", layout(dense)), rust / port);
+            }
+        }
+        self.table(table);
     }
 
     pub fn bar(&mut self, group: &str, label: &str, ratio: f64) {

@@ -1,7 +1,8 @@
 //! Inputs: short ones exhaustively, random ones around the sizes where something changes, damaged copies, chains of
 //! slices, lists of builder calls.
 
-use crate::plain::{Case, Column, Growing, Kind, State, add_column, without_columns};
+use crate::plain::{Case, Column, Growing, Kind, Reading, State, add_column, without_columns};
+use crate::random::Random;
 
 /// What is compared at a time.
 #[derive(Clone, Debug)]
@@ -23,38 +24,6 @@ pub struct Fill {
     pub capacity: usize,
     pub limit: usize,
     pub seed: u64,
-}
-
-/// Random numbers that a seed gives again (splitmix64).
-#[derive(Clone)]
-pub struct Random(pub u64);
-
-impl Random {
-    pub fn next(&mut self) -> u64 {
-        self.0 = self.0.wrapping_add(0x9e37_79b9_7f4a_7c15);
-        let mut z = self.0;
-        z = (z ^ (z >> 30)).wrapping_mul(0xbf58_476d_1ce4_e5b9);
-        z = (z ^ (z >> 27)).wrapping_mul(0x94d0_49bb_1331_11eb);
-        z ^ (z >> 31)
-    }
-
-    pub fn below(&mut self, bound: usize) -> usize {
-        (self.next() % bound as u64) as usize
-    }
-
-    pub fn one_in(&mut self, times: usize) -> bool {
-        self.below(times) == 0
-    }
-
-    pub fn pick<T: Clone>(&mut self, from: &[T]) -> T {
-        from[self.below(from.len())].clone()
-    }
-
-    fn shuffle<T>(&mut self, list: &mut [T]) {
-        for i in (1..list.len()).rev() {
-            list.swap(i, self.below(i + 1));
-        }
-    }
 }
 
 // ---------------------------------------------------------------------------------------------------- short inputs
@@ -400,8 +369,8 @@ pub fn slices(random: &mut Random, mut count: usize) -> Vec<(usize, usize)> {
 
 #[derive(Clone, Debug)]
 pub enum Call {
-    Append { name: Vec<u8>, kind: Kind, word: u64 },
-    AppendNull { name: Vec<u8>, kind: Kind },
+    /// `append` of a word, `append_null` of none.
+    Append(Reading),
     Len,
     FinishCloned,
     Finish,
@@ -443,8 +412,8 @@ pub fn script(random: &mut Random) -> Script {
             0 => Call::Len,
             1 => Call::FinishCloned,
             2 if random.one_in(2) => Call::Finish,
-            3..=12 => Call::AppendNull { name, kind },
-            _ => Call::Append { name, kind, word: random.next() },
+            3..=12 => Call::Append(Reading { name, kind, word: None }),
+            _ => Call::Append(Reading { name, kind, word: Some(random.next()) }),
         };
         calls.push((call, random.one_in(4 * odd).then(|| random.below(5) as u8)));
     }

@@ -6,12 +6,12 @@ mod builders;
 mod filled;
 mod masks;
 
-pub use builders::original_append;
-
-use crate::cases::{Input, Random};
+use crate::cases::Input;
 use crate::oracle::{Outcome, Strategy, Value};
-use crate::plain::{Batch, Column, Kind, Lent, State};
+use crate::plain::{Batch, Column, Lent, Reading, State};
+use crate::random::Random;
 use crate::tally::Tally;
+use cangxole::ffi::Slots;
 
 pub const GATHER_COSTS: [u8; 4] = [10, 3, 2, 0];
 pub const STRATEGIES: [Strategy; 4] =
@@ -23,17 +23,6 @@ pub struct Mask {
     pub present: bool,
     pub null_count: usize,
     pub route: u8,
-}
-
-/// An append's name, kind and word, or none for a null.
-pub type Reading = (Vec<u8>, Kind, Option<u64>);
-
-/// Where a run of lookups puts its answers.
-#[derive(Clone, Debug, PartialEq, Eq)]
-pub struct Outputs {
-    pub ids: Vec<i8>,
-    pub missing: Vec<u8>,
-    pub bits: Vec<u64>,
 }
 
 /// The port's calls in plain terms. The first part of an answer is the refusal's number, 0 if accepted; on a refusal
@@ -58,30 +47,17 @@ pub trait Port {
     /// `new_dense` or `new_sparse`.
     fn new(&self, dense: bool, limit: usize, lent: &Lent) -> (u8, State);
     /// `append` of a word, `append_null` of none.
-    fn append(&self, state: &State, lent: &mut Lent, name: &[u8], kind: Kind, word: Option<u64>) -> (u8, State);
+    fn append(&self, state: &State, lent: &mut Lent, reading: &Reading) -> (u8, State);
     /// The same, where copying the memory for each call would take too long.
-    fn append_in_place(
-        &self,
-        state: &State,
-        lent: &mut Lent,
-        name: &[u8],
-        kind: Kind,
-        word: Option<u64>,
-    ) -> (u8, State) {
-        self.append(state, lent, name, kind, word)
+    fn append_in_place(&self, state: &State, lent: &mut Lent, reading: &Reading) -> (u8, State) {
+        self.append(state, lent, reading)
     }
     /// A run of appends, with the number of each; none if the port has no such call.
-    fn appends(
-        &self,
-        _state: &State,
-        _lent: &mut Lent,
-        _readings: &[Reading],
-        _refusals: &mut [u8],
-    ) -> Option<(u8, State)> {
+    fn appends(&self, _: &State, _: &mut Lent, _: &[Reading], _: &mut [u8]) -> Option<(u8, State)> {
         None
     }
     /// The slots of a run, one entry of each output to a slot; none if the port has no such call.
-    fn values(&self, _batch: &Batch, _lent: &Lent, _first: usize, _count: usize, _out: &mut Outputs) -> Option<u8> {
+    fn values(&self, _: &Batch, _: &Lent, _first: usize, _count: usize, _: &mut Slots) -> Option<u8> {
         None
     }
     fn len(&self, state: &State) -> (usize, State);

@@ -2,7 +2,9 @@
 
 use crate::compare::{Mask, Port, number};
 use crate::oracle::{Builder, Nulls, Outcome, Strategy, Union, Value, drop_masks_without_null};
-use crate::plain::{Case, Growing, Kind, Lent, State, add_column, int8_columns as batch, without_columns};
+use crate::plain::{
+    Case, Growing, Kind, Lent, Reading, State, add_column, int8_columns as batch, memory, without_columns,
+};
 use crate::tally::Tally;
 
 /// One port, and what came of it. The original is compared with the page's middle column, the port with its last one.
@@ -50,17 +52,19 @@ fn mask(union: &Union, cost: u8) -> Nulls {
 }
 
 /// The appends of one-letter columns: 'a' is of kind Int8, 'A' the same column as Int16. The values are 1, 2, 3 and on.
-fn appends(letters: &str) -> Vec<(String, Kind, u64)> {
-    let kind = |letter: char| if letter.is_lowercase() { Kind::Int8 } else { Kind::Int16 };
-    let append = |(place, letter): (usize, char)| (letter.to_ascii_lowercase().into(), kind(letter), 1 + place as u64);
-    letters.chars().enumerate().map(append).collect()
+fn appends(letters: &str) -> impl Iterator<Item = Reading> {
+    let kind = |letter: u8| if letter.is_ascii_lowercase() { Kind::Int8 } else { Kind::Int16 };
+    letters
+        .bytes()
+        .zip(1..)
+        .map(move |(letter, word)| Reading::new(&[letter.to_ascii_lowercase()], kind(letter), Some(word)))
 }
 
 /// The original's builder after these appends, and their numbers.
 fn original_after(dense: bool, letters: &str) -> (Vec<u8>, Builder) {
     let mut builder = Builder::with_capacity(dense, 8);
-    let append = |(name, kind, word): (String, Kind, u64)| number(&builder.append(&name, kind, word));
-    (appends(letters).into_iter().map(append).collect(), builder)
+    let numbers = appends(letters).map(|reading| number(&builder.append_reading(&reading))).collect();
+    (numbers, builder)
 }
 
 /// A slot's id, name, whether it is missing, and bits.
@@ -74,24 +78,14 @@ fn shown(union: &Union, slot: usize) -> Option<Slot> {
     union.value(slot).answer().map(slot_of)
 }
 
-fn memory(capacity: usize, limit: usize) -> Lent {
-    Lent {
-        type_ids: vec![9; capacity],
-        offsets: vec![9; capacity],
-        values: vec![9; limit * capacity],
-        masks: vec![9; limit * capacity.div_ceil(64)],
-        names: vec![9; 32 * limit],
-    }
-}
-
 impl<P: Port> Rows<'_, P> {
     /// The port's builder of this size after these appends, and their numbers.
     fn port_after(&self, dense: bool, (capacity, limit): (usize, usize), letters: &str) -> (Vec<u8>, State, Lent) {
-        let mut lent = memory(capacity, limit);
+        let mut lent = memory(capacity, limit, 9);
         let (_, mut state) = self.port.with_capacity(dense, capacity, limit, &lent);
         let mut numbers = Vec::new();
-        for (name, kind, word) in appends(letters) {
-            let (number, after) = self.port.append(&state, &mut lent, name.as_bytes(), kind, Some(word));
+        for reading in appends(letters) {
+            let (number, after) = self.port.append(&state, &mut lent, &reading);
             numbers.push(number);
             state = after;
         }
@@ -240,7 +234,7 @@ impl<P: Port> Rows<'_, P> {
         let (_, state, mut lent) = self.port_after(false, (1, 1), "");
         let number_of = number(&Builder::new_sparse().append(&"n".repeat(33), Kind::Int8, 1));
         self.tally.alone("a name of 33 bytes, appended", number_of, 0);
-        let (number, _) = self.port.append(&state, &mut lent, &[b'n'; 33], Kind::Int8, Some(1));
+        let (number, _) = self.port.append(&state, &mut lent, &Reading::new(&[b'n'; 33], Kind::Int8, Some(1)));
         self.tally.model("a name of 33 bytes, appended", number, 17);
     }
 
@@ -253,14 +247,15 @@ impl<P: Port> Rows<'_, P> {
             self.tally.alone("a, b", original_after(dense, "ab").0, vec![0, 0]);
             self.tally.model("K = 1; a, b", self.port_after(dense, (2, 1), "ab").0, vec![0, 20]);
             let (_, state, mut lent) = self.port_after(dense, (2, 1), "");
-            let not_utf8 = self.port.append(&state, &mut lent, b"\xed\xa0\x80", Kind::Int8, Some(1)).0;
+            let one = |name: &[u8]| Reading::new(name, Kind::Int8, Some(1));
+            let not_utf8 = self.port.append(&state, &mut lent, &one(b"\xed\xa0\x80")).0;
             self.tally.model("a name that is not UTF-8", not_utf8, 17);
             lent.names.pop();
-            let short = self.port.append(&state, &mut lent, b"a", Kind::Int8, Some(1)).0;
+            let short = self.port.append(&state, &mut lent, &one(b"a")).0;
             self.tally.model("too little memory lent", (short, self.port.finish(&state, &lent).0), (16, 16));
             let column = Growing { kind: Kind::Int8, size: 1, slots: 1, masked: false };
             let made_up = State { columns: vec![column], ..state };
-            let refused = self.port.append(&made_up, &mut memory(2, 1), b"a", Kind::Int8, Some(1)).0;
+            let refused = self.port.append(&made_up, &mut memory(2, 1, 9), &one(b"a")).0;
             self.tally.model("a builder that append did not make", refused, 15);
         }
     }
@@ -277,13 +272,13 @@ impl<P: Port> Rows<'_, P> {
             self.tally.alone("the 129th name has the id -128", id, true);
             let ends = [builder.finish_cloned().sort(), builder.finish().sort()];
             self.tally.alone("129 names: finish_cloned, finish", ends, ["panicked"; 2]);
-            let mut lent = memory(129, 128);
+            let mut lent = memory(129, 128, 9);
             self.tally.model("K = 129", self.port.with_capacity(dense, 129, 129, &lent).0, 15);
             let (_, mut state) = self.port.with_capacity(dense, 129, 128, &lent);
             let mut numbers = Vec::new();
             for place in 0..129 {
-                let name = format!("{place:03}");
-                let (number, after) = self.port.append(&state, &mut lent, name.as_bytes(), Kind::Int8, Some(1));
+                let reading = Reading::new(format!("{place:03}").as_bytes(), Kind::Int8, Some(1));
+                let (number, after) = self.port.append(&state, &mut lent, &reading);
                 numbers.push(number);
                 state = after;
             }

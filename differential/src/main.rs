@@ -2,6 +2,7 @@
 //!   differential [--seed N] [--cases N] [--self] [--compare-only]
 //!   differential --sample N --seed N --into DIR
 
+mod arguments;
 mod cases;
 mod compare;
 mod findings;
@@ -10,28 +11,19 @@ mod oracle;
 mod plain;
 #[cfg(port)]
 mod port;
+mod random;
 mod sample;
 mod selfcheck;
 mod shrink;
 mod tally;
 
-use cases::{Fill, Input, Random};
+use arguments::{flag, number, word};
+use cases::{Fill, Input};
 use compare::{Comparison, Port};
+use random::Random;
 use std::io::IsTerminal;
 use std::time::Instant;
 use tally::{Tally, Totals};
-
-fn word(name: &str) -> Option<String> {
-    std::env::args().skip_while(|argument| argument != name).nth(1)
-}
-
-fn option(name: &str, otherwise: u64) -> u64 {
-    word(name).map_or(otherwise, |number| number.parse().expect("a number"))
-}
-
-fn flag(name: &str) -> bool {
-    std::env::args().any(|argument| argument == name)
-}
 
 /// A part of a run: its counts, its progress, and the first difference, made as small as can be.
 struct Part<'a, P: Port> {
@@ -138,9 +130,9 @@ fn compare_port(_seed: u64, _cases: u64) -> Totals {
 
 fn main() {
     oracle::quiet();
-    let (seed, cases) = (option("--seed", 1), option("--cases", 1000));
+    let (seed, cases) = (number("--seed", 1), number("--cases", 1000));
     if word("--sample").is_some() {
-        return sample::write(option("--sample", 40), seed, &word("--into").expect("--into DIR"));
+        return sample::write(number("--sample", 40), seed, &word("--into").expect("--into DIR"));
     }
     let totals = if flag("--self") {
         println!("the model in the port's place, seed {seed}, {cases} cases");

@@ -4,7 +4,7 @@
 
 use crate::compare::{Mask, Port};
 use crate::oracle::{Child, Strategy, Value};
-use crate::plain::{Batch, Case, Column, Growing, Kind, Lent, State};
+use crate::plain::{Batch, Case, Column, Growing, Kind, Lent, Reading, State, cut, mask_bit, set_mask_bit};
 
 fn within(start: u128, length: u128, lent: u128) -> bool {
     start + length <= lent
@@ -100,7 +100,7 @@ impl Case {
     }
 
     fn present(&self, column: &Column, place: usize) -> bool {
-        !column.masked || self.lent.mask_bit(column.first_bit() as usize + place)
+        !column.masked || mask_bit(&self.lent.masks, column.first_bit() as usize + place)
     }
 
     fn child_slot(&self, slot: usize) -> usize {
@@ -120,7 +120,7 @@ impl Case {
             name: self.lent.names[column.name..][..column.size].to_vec(),
             kind: column.kind,
             missing: self.missing(slot),
-            bits: column.kind.cut(self.lent.values[column.values + self.child_slot(slot)]),
+            bits: cut(column.kind, self.lent.values[column.values + self.child_slot(slot)]),
         }
     }
 
@@ -217,7 +217,7 @@ impl Case {
     pub fn contents(&self, column: &Column) -> Child {
         let words = &self.lent.values[column.values..][..column.slots];
         let mask = column.masked.then(|| (0..column.slots).map(|place| self.present(column, place)).collect());
-        Child { kind: column.kind, words: words.iter().map(|word| column.kind.cut(*word)).collect(), mask }
+        Child { kind: column.kind, words: words.iter().map(|word| cut(column.kind, *word)).collect(), mask }
     }
 
     /// The batch with its memory laid out anew, in list order and without gaps.
@@ -253,22 +253,23 @@ pub struct Book {
 }
 
 impl Book {
-    pub fn append(&mut self, enough: bool, name: &[u8], kind: Kind, word: Option<u64>) -> u8 {
+    pub fn append(&mut self, enough: bool, reading: &Reading) -> u8 {
+        let Reading { name, kind, word } = reading;
         let known = self.columns.iter().position(|(known, _)| known == name);
         let number = match known {
             _ if !enough => 16,
             _ if name.len() > 32 || std::str::from_utf8(name).is_err() => 17,
-            Some(place) if self.columns[place].1 != kind => 18,
+            Some(place) if self.columns[place].1 != *kind => 18,
             _ if self.entries.len() == self.capacity => 19,
             None if self.columns.len() == self.limit => 20,
             _ => 0,
         };
         if number == 0 {
             if known.is_none() {
-                self.columns.push((name.to_vec(), kind));
+                self.columns.push((name.clone(), *kind));
             }
             let place = known.unwrap_or(self.columns.len() - 1);
-            self.entries.push((place, word.map(|word| kind.cut(word))));
+            self.entries.push((place, word.map(|word| cut(*kind, word))));
         }
         number
     }
@@ -318,7 +319,7 @@ impl Book {
             };
             for (slot, word) in slots.iter().enumerate().skip(from) {
                 lent.values[column * self.capacity + slot] = word.unwrap_or(0);
-                lent.set_mask_bit(64 * column * self.capacity.div_ceil(64) + slot, word.is_some());
+                set_mask_bit(&mut lent.masks, 64 * column * self.capacity.div_ceil(64) + slot, word.is_some());
             }
         }
     }
@@ -392,7 +393,7 @@ impl State {
         let entry = |slot: usize| {
             let place = lent.type_ids[slot] as usize;
             let slot = if self.dense { lent.offsets[slot] as usize } else { slot };
-            let set = lent.mask_bit(64 * place * self.capacity.div_ceil(64) + slot);
+            let set = mask_bit(&lent.masks, 64 * place * self.capacity.div_ceil(64) + slot);
             (place, set.then(|| lent.values[place * self.capacity + slot]))
         };
         let entries = (0..self.len).map(entry).collect();
@@ -418,19 +419,19 @@ impl Growth {
         let capacity = self.state.capacity;
         let column = &mut self.state.columns[place];
         self.lent.values[place * capacity + column.slots] = word.unwrap_or(0);
-        self.lent.set_mask_bit(64 * place * capacity.div_ceil(64) + column.slots, word.is_some());
+        set_mask_bit(&mut self.lent.masks, 64 * place * capacity.div_ceil(64) + column.slots, word.is_some());
         column.slots += 1;
         column.masked |= word.is_none();
     }
 
-    pub fn append(&mut self, name: &[u8], kind: Kind, word: Option<u64>) {
+    pub fn append(&mut self, Reading { name, kind, word }: &Reading) {
         let len = self.state.len;
         let known = self.names.iter().position(|known| known == name);
         let place = known.unwrap_or(self.names.len());
         if known.is_none() {
-            self.names.push(name.to_vec());
-            self.kinds.push(kind as usize);
-            self.state.columns.push(Growing { kind, size: name.len(), slots: 0, masked: false });
+            self.names.push(name.clone());
+            self.kinds.push(*kind as usize);
+            self.state.columns.push(Growing { kind: *kind, size: name.len(), slots: 0, masked: false });
             self.lent.names[32 * place..][..name.len()].copy_from_slice(name);
             for _ in 0..if self.state.dense { 0 } else { len } {
                 self.put(place, None);
@@ -442,7 +443,7 @@ impl Growth {
         }
         for other in 0..self.names.len() {
             if other == place {
-                self.put(place, word.map(|word| kind.cut(word)));
+                self.put(place, word.map(|word| cut(*kind, word)));
             } else if !self.state.dense {
                 self.put(other, None);
             }
@@ -582,13 +583,13 @@ impl Port for Model {
         self.with_capacity(dense, 1024, limit, lent)
     }
 
-    fn append(&self, state: &State, lent: &mut Lent, name: &[u8], kind: Kind, word: Option<u64>) -> (u8, State) {
+    fn append(&self, state: &State, lent: &mut Lent, reading: &Reading) -> (u8, State) {
         let number = state.refusal(lent);
         if number != 0 {
             return (number, state.clone());
         }
         let mut book = state.book(lent);
-        let number = book.append(true, name, kind, word);
+        let number = book.append(true, reading);
         if number == 0 {
             book.write_last(lent);
         }

@@ -1,7 +1,7 @@
 //! The original, asked in the port's terms: unions from a description over lent memory, every answer as plain data.
 //! A panic of the original is caught and answered as one.
 
-use crate::plain::{Batch, Case, Column, Kind, Lent};
+use crate::plain::{Batch, Case, Column, Kind, Lent, Reading};
 use arrow_array::builder::{ArrayBuilder, UnionBuilder};
 use arrow_array::types::*;
 use arrow_array::{Array, ArrayRef, ArrowPrimitiveType, PrimitiveArray, UnionArray};
@@ -132,65 +132,22 @@ impl Word for f64 {
 /// Runs the expression with `$t` standing for the kind's type.
 macro_rules! with_type {
     ($kind:expr, $t:ident => $body:expr) => {
+        with_type!($kind, $t => $body; Int8 Int8Type, Int16 Int16Type, Int32 Int32Type, Int64 Int64Type, UInt8 UInt8Type,
+            UInt16 UInt16Type, UInt32 UInt32Type, UInt64 UInt64Type, Float32 Float32Type, Float64 Float64Type)
+    };
+    ($kind:expr, $t:ident => $body:expr; $($name:ident $type:ident),*) => {
         match $kind {
-            Kind::Int8 => {
-                type $t = Int8Type;
+            $(Kind::$name => {
+                type $t = $type;
                 $body
-            }
-            Kind::Int16 => {
-                type $t = Int16Type;
-                $body
-            }
-            Kind::Int32 => {
-                type $t = Int32Type;
-                $body
-            }
-            Kind::Int64 => {
-                type $t = Int64Type;
-                $body
-            }
-            Kind::UInt8 => {
-                type $t = UInt8Type;
-                $body
-            }
-            Kind::UInt16 => {
-                type $t = UInt16Type;
-                $body
-            }
-            Kind::UInt32 => {
-                type $t = UInt32Type;
-                $body
-            }
-            Kind::UInt64 => {
-                type $t = UInt64Type;
-                $body
-            }
-            Kind::Float32 => {
-                type $t = Float32Type;
-                $body
-            }
-            Kind::Float64 => {
-                type $t = Float64Type;
-                $body
-            }
+            })*
         }
     };
 }
 
 fn kind_of(data_type: &DataType) -> Kind {
-    match data_type {
-        DataType::Int8 => Kind::Int8,
-        DataType::Int16 => Kind::Int16,
-        DataType::Int32 => Kind::Int32,
-        DataType::Int64 => Kind::Int64,
-        DataType::UInt8 => Kind::UInt8,
-        DataType::UInt16 => Kind::UInt16,
-        DataType::UInt32 => Kind::UInt32,
-        DataType::UInt64 => Kind::UInt64,
-        DataType::Float32 => Kind::Float32,
-        DataType::Float64 => Kind::Float64,
-        other => panic!("{other} is none of the ten kinds"),
-    }
+    let found = Kind::ALL.into_iter().find(|kind| data_type_of(*kind) == *data_type);
+    found.unwrap_or_else(|| panic!("{data_type} is none of the ten kinds"))
 }
 
 fn data_type_of(kind: Kind) -> DataType {
@@ -256,13 +213,20 @@ fn built(batch: &Batch, lent: &Lent, make: impl FnOnce(Parts) -> Result<UnionArr
 // --------------------------------------------------------------------------------------------------------- answers
 
 /// What `value` shows of a slot; `bits` is what is stored, under a null too.
-#[derive(Clone, Debug, Default, PartialEq, Eq)]
+#[derive(Clone, Debug, PartialEq, Eq)]
 pub struct Value {
     pub id: i8,
     pub name: Vec<u8>,
     pub kind: Kind,
     pub missing: bool,
     pub bits: u64,
+}
+
+impl Default for Value {
+    /// What a refused lookup answers.
+    fn default() -> Self {
+        Value { id: 0, name: Vec::new(), kind: Kind::Int8, missing: false, bits: 0 }
+    }
 }
 
 /// A child: its stored words and, if it has a mask, for each slot whether it is present.
@@ -462,6 +426,15 @@ impl Builder {
             true => UnionBuilder::with_capacity_dense(capacity),
             false => UnionBuilder::with_capacity_sparse(capacity),
         })
+    }
+
+    /// Appends a reading whose name is UTF-8.
+    pub fn append_reading(&mut self, Reading { name, kind, word }: &Reading) -> Outcome<()> {
+        let name = std::str::from_utf8(name).expect("an accepted name");
+        match word {
+            Some(word) => self.append(name, *kind, *word),
+            None => self.append_null(name, *kind),
+        }
     }
 
     pub fn append(&mut self, name: &str, kind: Kind, word: u64) -> Outcome<()> {

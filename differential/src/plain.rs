@@ -1,48 +1,37 @@
 //! Plain data in the port's terms: a batch is a description by value over lent memory.
 
-/// The kind of a column's values; its number is its place.
-#[derive(Clone, Copy, Debug, Default, PartialEq, Eq)]
-pub enum Kind {
-    #[default]
-    Int8,
-    Int16,
-    Int32,
-    Int64,
-    UInt8,
-    UInt16,
-    UInt32,
-    UInt64,
-    Float32,
-    Float64,
+pub use cangxole::Kind;
+/// Lent memory: type ids, offsets, value words, mask words, name bytes.
+pub use cangxole::ffi::Buffers as Lent;
+
+/// The value's bits of a word of this kind, zeros above them.
+pub fn cut(kind: Kind, word: u64) -> u64 {
+    let width = match kind {
+        Kind::Int8 | Kind::UInt8 => 8,
+        Kind::Int16 | Kind::UInt16 => 16,
+        Kind::Int32 | Kind::UInt32 | Kind::Float32 => 32,
+        Kind::Int64 | Kind::UInt64 | Kind::Float64 => 64,
+    };
+    word & (u64::MAX >> (64 - width))
 }
 
-impl Kind {
-    pub const ALL: [Kind; 10] = [
-        Kind::Int8,
-        Kind::Int16,
-        Kind::Int32,
-        Kind::Int64,
-        Kind::UInt8,
-        Kind::UInt16,
-        Kind::UInt32,
-        Kind::UInt64,
-        Kind::Float32,
-        Kind::Float64,
-    ];
+pub fn mask_bit(masks: &[u64], bit: usize) -> bool {
+    masks[bit / 64] >> (bit % 64) & 1 != 0
+}
 
-    /// The width of a value in bits.
-    pub fn width(self) -> u32 {
-        match self {
-            Kind::Int8 | Kind::UInt8 => 8,
-            Kind::Int16 | Kind::UInt16 => 16,
-            Kind::Int32 | Kind::UInt32 | Kind::Float32 => 32,
-            Kind::Int64 | Kind::UInt64 | Kind::Float64 => 64,
-        }
-    }
+pub fn set_mask_bit(masks: &mut [u64], bit: usize, set: bool) {
+    let word = &mut masks[bit / 64];
+    *word = *word & !(1 << (bit % 64)) | u64::from(set) << (bit % 64);
+}
 
-    /// The value's bits of a word, zeros above them.
-    pub fn cut(self, word: u64) -> u64 {
-        word & (u64::MAX >> (64 - self.width()))
+/// As much memory as question 16 asks of a builder, each entry this number.
+pub fn memory(capacity: usize, limit: usize, entry: i64) -> Lent {
+    Lent {
+        type_ids: vec![entry as i8; capacity],
+        offsets: vec![entry as i32; capacity],
+        values: vec![entry as u64; limit * capacity],
+        masks: vec![entry as u64; limit * capacity.div_ceil(64)],
+        names: vec![entry as u8; 32 * limit],
     }
 }
 
@@ -126,23 +115,17 @@ pub struct Growing {
     pub masked: bool,
 }
 
-#[derive(Clone, Debug, Default, PartialEq, Eq)]
-pub struct Lent {
-    pub type_ids: Vec<i8>,
-    pub offsets: Vec<i32>,
-    pub values: Vec<u64>,
-    pub masks: Vec<u64>,
-    pub names: Vec<u8>,
+/// What an append is given: the name of a column, a kind, and a word, or none for a null.
+#[derive(Clone, Debug, PartialEq, Eq)]
+pub struct Reading {
+    pub name: Vec<u8>,
+    pub kind: Kind,
+    pub word: Option<u64>,
 }
 
-impl Lent {
-    pub fn mask_bit(&self, bit: usize) -> bool {
-        self.masks[bit / 64] >> (bit % 64) & 1 != 0
-    }
-
-    pub fn set_mask_bit(&mut self, bit: usize, set: bool) {
-        let word = &mut self.masks[bit / 64];
-        *word = *word & !(1 << (bit % 64)) | u64::from(set) << (bit % 64);
+impl Reading {
+    pub fn new(name: &[u8], kind: Kind, word: Option<u64>) -> Self {
+        Reading { name: name.to_vec(), kind, word }
     }
 }
 

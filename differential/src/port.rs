@@ -1,15 +1,14 @@
 //! The port, called through its C interface. What an answer holds where it should hold zeros is kept, so that it is seen.
 
 mod boundary;
-mod interface;
 
 pub use boundary::boundary;
 
-use crate::compare::{Mask, Outputs, Port, Reading};
+use crate::compare::{Mask, Port};
 use crate::model::route;
 use crate::oracle::{Strategy, Value};
-use crate::plain::{Batch, Column, Growing, Kind, Lent, State};
-use interface::*;
+use crate::plain::{Batch, Column, Growing, Kind, Lent, Reading, State};
+use cangxole::ffi;
 
 // ----------------------------------------------------------------------------------------------------- conversions
 
@@ -22,8 +21,8 @@ fn flag_of(number: u8) -> bool {
     number == 1
 }
 
-fn column_to(column: &Column) -> CColumn {
-    CColumn {
+fn column_to(column: &Column) -> ffi::Column {
+    ffi::Column {
         values: column.values,
         mask: column.mask,
         name: column.name,
@@ -36,7 +35,7 @@ fn column_to(column: &Column) -> CColumn {
     }
 }
 
-fn column_of(column: &CColumn) -> Column {
+fn column_of(column: &ffi::Column) -> Column {
     Column {
         id: column.id,
         kind: kind_of(column.kind),
@@ -50,12 +49,12 @@ fn column_of(column: &CColumn) -> Column {
     }
 }
 
-fn array_to(batch: &Batch) -> CArray {
-    let mut columns = [CColumn::default(); 128];
+fn array_to(batch: &Batch) -> ffi::Array {
+    let mut columns = [ffi::Column::default(); ffi::MAX_COLUMNS];
     for (to, column) in columns.iter_mut().zip(&batch.columns) {
         *to = column_to(column);
     }
-    CArray {
+    ffi::Array {
         columns,
         fields: batch.fields,
         children: batch.children,
@@ -72,7 +71,7 @@ fn used<T: Default + PartialEq>(entries: &[T]) -> usize {
     entries.iter().rposition(|entry| *entry != T::default()).map_or(0, |last| last + 1)
 }
 
-fn batch_of(array: &CArray) -> Batch {
+fn batch_of(array: &ffi::Array) -> Batch {
     Batch {
         dense: flag_of(array.layout),
         fields: array.fields,
@@ -85,17 +84,17 @@ fn batch_of(array: &CArray) -> Batch {
     }
 }
 
-fn builder_to(state: &State) -> CBuilder {
-    let mut columns = [CBuilderColumn::default(); 128];
+fn builder_to(state: &State) -> ffi::Builder {
+    let mut columns = [ffi::BuilderColumn::default(); ffi::MAX_COLUMNS];
     for (to, column) in columns.iter_mut().zip(&state.columns) {
-        *to = CBuilderColumn {
+        *to = ffi::BuilderColumn {
             slots: column.slots.try_into().expect("slots of 32 bits"),
             size: column.size.try_into().expect("a name's size of 8 bits"),
             kind: column.kind as u8,
             masked: u8::from(column.masked),
         };
     }
-    CBuilder {
+    ffi::Builder {
         columns,
         capacity: state.capacity,
         limit: state.limit,
@@ -106,8 +105,8 @@ fn builder_to(state: &State) -> CBuilder {
 }
 
 /// A state; entries past those in use that are not empty are kept, and so make a difference.
-fn state_of(builder: &CBuilder) -> State {
-    let column = |column: &CBuilderColumn| Growing {
+fn state_of(builder: &ffi::Builder) -> State {
+    let column = |column: &ffi::BuilderColumn| Growing {
         kind: kind_of(column.kind),
         size: column.size.into(),
         slots: column.slots as usize,
@@ -123,7 +122,7 @@ fn state_of(builder: &CBuilder) -> State {
     }
 }
 
-fn mask_of(nulls: CNulls) -> (u8, Mask) {
+fn mask_of(nulls: ffi::Nulls) -> (u8, Mask) {
     (nulls.refusal, Mask { present: flag_of(nulls.present), null_count: nulls.nulls, route: nulls.route })
 }
 
@@ -149,84 +148,99 @@ fn unguarded<T: Copy + PartialEq>(part: &mut [T], longer: &[T], guard: T) {
     part.copy_from_slice(middle);
 }
 
+/// The middle of a longer one.
+fn between_guards<T>(longer: &mut [T]) -> &mut [T] {
+    let end = longer.len() - GUARD;
+    &mut longer[GUARD..end]
+}
+
+fn append<'a>(state: &State, lent: impl Into<ffi::LentMut<'a>>, reading: &Reading) -> (u8, State) {
+    let (builder, name, kind) = (builder_to(state), &reading.name, reading.kind.number());
+    let built = match reading.word {
+        Some(bits) => ffi::builder_append(&builder, name, kind, bits, lent),
+        None => ffi::builder_append_null(&builder, name, kind, lent),
+    };
+    (built.refusal, state_of(&built.builder))
+}
+
 impl Port for Proved {
     fn try_new(&self, batch: &Batch, lent: &Lent) -> u8 {
-        call!(union_array_try_new(array_to(batch); lent))
+        ffi::array_try_new(&array_to(batch), lent)
     }
 
     fn child(&self, batch: &Batch, lent: &Lent, id: i8) -> (u8, Column) {
-        let child = call!(union_array_child(array_to(batch), id; lent));
+        let child = ffi::array_child(&array_to(batch), id, lent);
         (child.refusal, column_of(&child.column))
     }
 
     fn type_id(&self, batch: &Batch, lent: &Lent, slot: usize) -> (u8, i8) {
-        let answer = call!(union_array_type_id(array_to(batch), slot; lent));
+        let answer = ffi::array_type_id(&array_to(batch), slot, lent);
         (answer.refusal, answer.id)
     }
 
     fn value_offset(&self, batch: &Batch, lent: &Lent, slot: usize) -> (u8, usize) {
-        let answer = call!(union_array_value_offset(array_to(batch), slot; lent));
+        let answer = ffi::array_value_offset(&array_to(batch), slot, lent);
         (answer.refusal, answer.offset)
     }
 
     fn value(&self, batch: &Batch, lent: &Lent, slot: usize) -> (u8, Value) {
-        let value = call!(union_array_value(array_to(batch), slot; lent));
+        let value = ffi::array_value(&array_to(batch), slot, lent);
         let size = usize::from(value.size).max(used(&value.name));
         let (kind, missing) = (kind_of(value.kind), flag_of(value.missing));
         (value.refusal, Value { id: value.id, name: value.name[..size].to_vec(), kind, missing, bits: value.bits })
     }
 
     fn type_names(&self, batch: &Batch, lent: &Lent) -> (u8, Vec<(usize, usize)>) {
-        let names = call!(union_array_type_names(array_to(batch); lent));
+        let names = ffi::array_type_names(&array_to(batch), lent);
         let count = names.count.max(used(&names.names));
         (names.refusal, names.names[..count].iter().map(|place| (place.start, place.size.into())).collect())
     }
 
     fn is_dense(&self, batch: &Batch, lent: &Lent) -> (u8, bool) {
-        let flag = call!(union_array_is_dense(array_to(batch); lent));
+        let flag = ffi::array_is_dense(&array_to(batch), lent);
         (flag.refusal, flag_of(flag.holds))
     }
 
     fn is_nullable(&self, batch: &Batch, lent: &Lent) -> (u8, bool) {
-        let flag = call!(union_array_is_nullable(array_to(batch); lent));
+        let flag = ffi::array_is_nullable(&array_to(batch), lent);
         (flag.refusal, flag_of(flag.holds))
     }
 
     fn type_ids(&self, batch: &Batch, lent: &Lent) -> (u8, usize, usize) {
-        let part = call!(union_array_type_ids(array_to(batch); lent));
+        let part = ffi::array_type_ids(&array_to(batch), lent);
         (part.refusal, part.start, part.count)
     }
 
     fn slice(&self, batch: &Batch, lent: &Lent, start: usize, count: usize) -> (u8, Batch) {
-        let slice = call!(union_array_slice(array_to(batch), start, count; lent));
+        let slice = ffi::array_slice(&array_to(batch), start, count, lent);
         (slice.refusal, batch_of(&slice.array))
     }
 
     fn null_mask(&self, batch: &Batch, lent: &Lent, cost: usize, out: &mut [u64]) -> (u8, Mask) {
-        mask_of(call!(union_logical_nulls(array_to(batch), cost; lent; out)))
+        mask_of(ffi::logical_nulls(&array_to(batch), cost, lent, out))
     }
 
     fn strategy(&self, batch: &Batch, lent: &Lent, strategy: Strategy, out: &mut [u64]) -> (u8, Mask) {
-        mask_of(call!(union_strategy(array_to(batch), route(strategy); lent; out)))
+        mask_of(ffi::strategy(&array_to(batch), route(strategy), lent, out))
     }
 
     fn with_capacity(&self, dense: bool, capacity: usize, limit: usize, lent: &Lent) -> (u8, State) {
         let built = match dense {
-            true => call!(union_builder_with_capacity_dense(capacity, limit; lent)),
-            false => call!(union_builder_with_capacity_sparse(capacity, limit; lent)),
+            true => ffi::builder_with_capacity_dense(capacity, limit, lent),
+            false => ffi::builder_with_capacity_sparse(capacity, limit, lent),
         };
         (built.refusal, state_of(&built.builder))
     }
 
     fn new(&self, dense: bool, limit: usize, lent: &Lent) -> (u8, State) {
         let built = match dense {
-            true => call!(union_builder_new_dense(limit; lent)),
-            false => call!(union_builder_new_sparse(limit; lent)),
+            true => ffi::builder_new_dense(limit, lent),
+            false => ffi::builder_new_sparse(limit, lent),
         };
         (built.refusal, state_of(&built.builder))
     }
 
-    fn append(&self, state: &State, lent: &mut Lent, name: &[u8], kind: Kind, word: Option<u64>) -> (u8, State) {
+    fn append(&self, state: &State, lent: &mut Lent, reading: &Reading) -> (u8, State) {
         let mut longer = Lent {
             type_ids: guarded(&lent.type_ids, 77),
             offsets: guarded(&lent.offsets, 77),
@@ -234,94 +248,51 @@ impl Port for Proved {
             masks: guarded(&lent.masks, 77),
             names: guarded(&lent.names, 77),
         };
-        let builder = builder_to(state);
-        let (at, size, kind) = (name.as_ptr(), name.len(), kind as u8);
-        // SAFETY: each pointer is that of a slice of the length given, the part between the guards.
-        let built = unsafe {
-            let type_ids = longer.type_ids.as_mut_ptr().add(GUARD);
-            let offsets = longer.offsets.as_mut_ptr().add(GUARD);
-            let values = longer.values.as_mut_ptr().add(GUARD);
-            let masks = longer.masks.as_mut_ptr().add(GUARD);
-            let names = longer.names.as_mut_ptr().add(GUARD);
-            let lens = [lent.type_ids.len(), lent.offsets.len(), lent.values.len(), lent.masks.len(), lent.names.len()];
-            match word {
-                Some(bits) => union_builder_append(
-                    builder, at, size, kind, bits, type_ids, lens[0], offsets, lens[1], values, lens[2], masks,
-                    lens[3], names, lens[4],
-                ),
-                None => union_builder_append_null(
-                    builder, at, size, kind, type_ids, lens[0], offsets, lens[1], values, lens[2], masks, lens[3],
-                    names, lens[4],
-                ),
-            }
+        let middle = ffi::LentMut {
+            type_ids: between_guards(&mut longer.type_ids),
+            offsets: between_guards(&mut longer.offsets),
+            values: between_guards(&mut longer.values),
+            masks: between_guards(&mut longer.masks),
+            names: between_guards(&mut longer.names),
         };
+        let answer = append(state, middle, reading);
         unguarded(&mut lent.type_ids, &longer.type_ids, 77);
         unguarded(&mut lent.offsets, &longer.offsets, 77);
         unguarded(&mut lent.values, &longer.values, 77);
         unguarded(&mut lent.masks, &longer.masks, 77);
         unguarded(&mut lent.names, &longer.names, 77);
-        (built.refusal, state_of(&built.builder))
+        answer
     }
 
-    fn append_in_place(
-        &self,
-        state: &State,
-        lent: &mut Lent,
-        name: &[u8],
-        kind: Kind,
-        word: Option<u64>,
-    ) -> (u8, State) {
-        let (builder, at, size, kind) = (builder_to(state), name.as_ptr(), name.len(), kind as u8);
-        let built = match word {
-            Some(bits) => call_writing!(union_builder_append(builder, at, size, kind, bits; lent)),
-            None => call_writing!(union_builder_append_null(builder, at, size, kind; lent)),
-        };
-        (built.refusal, state_of(&built.builder))
+    fn append_in_place(&self, state: &State, lent: &mut Lent, reading: &Reading) -> (u8, State) {
+        append(state, lent, reading)
     }
 
-    fn appends(
-        &self,
-        state: &State,
-        lent: &mut Lent,
-        readings: &[Reading],
-        refusals: &mut [u8],
-    ) -> Option<(u8, State)> {
-        let text: Vec<u8> = readings.iter().flat_map(|(name, _, _)| name.clone()).collect();
-        let sizes: Vec<u8> = readings.iter().map(|(name, _, _)| name.len() as u8).collect();
-        let starts: Vec<u32> = sizes
-            .iter()
-            .scan(0, |end, size| {
-                let start = *end;
-                *end += u32::from(*size);
-                Some(start)
-            })
-            .collect();
-        let kinds: Vec<u8> = readings.iter().map(|(_, kind, _)| *kind as u8).collect();
-        let present: Vec<u8> = readings.iter().map(|(_, _, word)| u8::from(word.is_some())).collect();
-        let bits: Vec<u64> = readings.iter().map(|(_, _, word)| word.unwrap_or(3)).collect();
-        let built = call_writing!(union_builder_appends(builder_to(state), text.as_ptr(), text.len(), starts.as_ptr(),
-            starts.len(), sizes.as_ptr(), sizes.len(), kinds.as_ptr(), kinds.len(), present.as_ptr(), present.len(),
-            bits.as_ptr(), bits.len(); lent; refusals));
+    fn appends(&self, state: &State, lent: &mut Lent, run: &[Reading], refusals: &mut [u8]) -> Option<(u8, State)> {
+        let mut readings = ffi::Readings::default();
+        for Reading { name, kind, word } in run {
+            readings.push(name, kind.number(), word.is_some(), word.unwrap_or(3));
+        }
+        let built = ffi::builder_appends(&builder_to(state), &readings, lent, refusals);
         Some((built.refusal, state_of(&built.builder)))
     }
 
-    fn values(&self, batch: &Batch, lent: &Lent, first: usize, count: usize, out: &mut Outputs) -> Option<u8> {
-        Some(call!(union_array_values(array_to(batch), first, count; lent; out.ids; out.missing; out.bits)))
+    fn values(&self, batch: &Batch, lent: &Lent, first: usize, count: usize, out: &mut ffi::Slots) -> Option<u8> {
+        Some(ffi::array_values(&array_to(batch), first, count, lent, out.outputs()))
     }
 
     fn len(&self, state: &State) -> (usize, State) {
-        // SAFETY: no memory is lent.
-        let length = unsafe { union_builder_len(builder_to(state)) };
+        let length = ffi::builder_len(&builder_to(state));
         (length.len, state_of(&length.builder))
     }
 
     fn finish_cloned(&self, state: &State, lent: &Lent) -> (u8, Batch, State) {
-        let finished = call!(union_builder_finish_cloned(builder_to(state); lent));
+        let finished = ffi::builder_finish_cloned(&builder_to(state), lent);
         (finished.refusal, batch_of(&finished.array), state_of(&finished.builder))
     }
 
     fn finish(&self, state: &State, lent: &Lent) -> (u8, Batch, State) {
-        let finished = call!(union_builder_finish(builder_to(state); lent));
+        let finished = ffi::builder_finish(&builder_to(state), lent);
         (finished.refusal, batch_of(&finished.array), state_of(&finished.builder))
     }
 }

@@ -40,10 +40,10 @@ mod arrays;
 mod builders;
 mod questions;
 
-use crate::cases::Random;
 use crate::compare::number;
 use crate::oracle::Outcome;
 use crate::plain::{Case, Kind, Lent};
+use crate::random::Random;
 use std::fmt::Write;
 
 /// Whose word an answer is.
@@ -55,8 +55,8 @@ enum By {
     Utf8,
 }
 
-/// An append's name and kind.
-type Reading = (Vec<u8>, Kind);
+/// The name and kind of an append.
+type Named = (Vec<u8>, Kind);
 
 /// The cases and the answers so far, and the calls of the case that is being made.
 #[derive(Default)]
@@ -115,7 +115,7 @@ impl Sample {
     }
 
     /// Writes down a case with the calls that were made since the last one.
-    fn case(&mut self, case: &Case, readings: &[Reading]) {
+    fn case(&mut self, case: &Case, readings: &[Named]) {
         self.description(case);
         self.memory(&case.lent);
         let (mut names, mut places) = (Vec::new(), Vec::new());

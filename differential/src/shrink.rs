@@ -1,8 +1,9 @@
 //! A difference on a smaller input: parts are dropped one at a time, as long as the same answer differs.
 
-use crate::cases::{Call, Input, Random, Script};
+use crate::cases::{Call, Input, Script};
 use crate::compare::{Comparison, Port};
-use crate::plain::{Case, Column, Kind};
+use crate::plain::{Case, Column, Kind, Reading};
+use crate::random::Random;
 use crate::tally::{Difference, Tally};
 use std::time::Instant;
 
@@ -119,7 +120,7 @@ fn changed<T: PartialEq>(place: &mut T, to: T) -> bool {
 
 fn smaller_cases(case: &Case) -> Vec<Case> {
     let mut all = Vec::new();
-    let mut with = |change: &dyn Fn(&mut Case) -> bool| {
+    let mut with = |change: Change| {
         let mut other = case.clone();
         if change(&mut other) {
             all.push(other);
@@ -140,7 +141,16 @@ fn smaller_cases(case: &Case) -> Vec<Case> {
     for place in (0..columns).rev() {
         with(&|other| changed(other, without(case, place)));
     }
-    for place in 0..columns {
+    smaller_columns(case, &mut with);
+    smaller_memory(case, &mut with);
+    all
+}
+
+/// A change of a case; whether it changes anything.
+type Change<'a> = &'a dyn Fn(&mut Case) -> bool;
+
+fn smaller_columns(case: &Case, with: &mut dyn FnMut(Change)) {
+    for place in 0..case.batch.columns.len() {
         let column = |other: &mut Case, change: &dyn Fn(&mut Column) -> bool| change(&mut other.batch.columns[place]);
         with(&|other| column(other, &|column| changed(&mut column.size, 0)));
         with(&|other| column(other, &|column| changed(&mut column.name, 0)));
@@ -161,11 +171,9 @@ fn smaller_cases(case: &Case) -> Vec<Case> {
             free
         });
     }
-    smaller_memory(case, &mut with);
-    all
 }
 
-fn smaller_memory(case: &Case, with: &mut dyn FnMut(&dyn Fn(&mut Case) -> bool)) {
+fn smaller_memory(case: &Case, with: &mut dyn FnMut(Change)) {
     let (start, offsets_start) = (case.batch.start, case.batch.offsets_start);
     with(&|other| {
         start > 0 && start <= other.lent.type_ids.len() && {
@@ -235,7 +243,7 @@ fn smaller_scripts(script: &Script) -> Vec<Script> {
         let mut other = script.clone();
         let (call, shortage) = &mut other.calls[place];
         let simpler = match call {
-            Call::Append { word, .. } => changed(word, 1),
+            Call::Append(Reading { word: Some(word), .. }) => changed(word, 1),
             _ => false,
         };
         if changed(shortage, None) || simpler {

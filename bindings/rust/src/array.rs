@@ -87,21 +87,21 @@ impl UnionArray {
 
     /// Whether the layout is dense; else it is sparse.
     pub fn is_dense(&self) -> bool {
-        let flag = ffi::array_is_dense(&self.array, &self.buffers);
+        let flag = ffi::array_is_dense(&self.array, &*self.buffers);
         accepted(flag.refusal);
         flag.holds == 1
     }
 
     /// Whether some child has a null anywhere in it, in a slot of the array or not.
     pub fn is_nullable(&self) -> bool {
-        let flag = ffi::array_is_nullable(&self.array, &self.buffers);
+        let flag = ffi::array_is_nullable(&self.array, &*self.buffers);
         accepted(flag.refusal);
         flag.holds == 1
     }
 
     /// The type ids, a part of the array's own memory.
     pub fn type_ids(&self) -> &[i8] {
-        let part = ffi::array_type_ids(&self.array, &self.buffers);
+        let part = ffi::array_type_ids(&self.array, &*self.buffers);
         accepted(part.refusal);
         &self.buffers.type_ids[part.start..][..part.count]
     }
@@ -109,7 +109,7 @@ impl UnionArray {
     /// The columns' names in list order. A builder's array lists its columns by name, so that the order may differ from
     /// that of the ids.
     pub fn type_names(&self) -> Vec<&str> {
-        let answer = ffi::array_type_names(&self.array, &self.buffers);
+        let answer = ffi::array_type_names(&self.array, &*self.buffers);
         accepted(answer.refusal);
         let name = |place: &ffi::NamePlace| str_of(&self.buffers.names[place.start..][..usize::from(place.size)]);
         answer.names[..answer.count].iter().map(name).collect()
@@ -117,21 +117,21 @@ impl UnionArray {
 
     /// Slot i's type id.
     pub fn type_id(&self, i: usize) -> Result<i8, Refusal> {
-        let answer = ffi::array_type_id(&self.array, i, &self.buffers);
+        let answer = ffi::array_type_id(&self.array, i, &*self.buffers);
         Refusal::check(answer.refusal)?;
         Ok(answer.id)
     }
 
     /// Slot i's slot in its child.
     pub fn value_offset(&self, i: usize) -> Result<usize, Refusal> {
-        let answer = ffi::array_value_offset(&self.array, i, &self.buffers);
+        let answer = ffi::array_value_offset(&self.array, i, &*self.buffers);
         Refusal::check(answer.refusal)?;
         Ok(answer.offset)
     }
 
     /// Slot i: its type id, its column's name, and its value.
     pub fn value(&self, i: usize) -> Result<Slot, Refusal> {
-        let answer = ffi::array_value(&self.array, i, &self.buffers);
+        let answer = ffi::array_value(&self.array, i, &*self.buffers);
         Refusal::check(answer.refusal)?;
         let value = Value::answered(answer.kind, answer.missing, answer.bits);
         Ok(Slot { type_id: answer.id, name: Name::answered(answer.name, answer.size), value })
@@ -141,7 +141,7 @@ impl UnionArray {
     pub fn values(&self, range: impl RangeBounds<usize>) -> Result<Slots, Refusal> {
         let (first, n) = self.run(&range);
         let mut slots = Slots::of(self, n.min(self.len()));
-        Refusal::check(ffi::array_values(&self.array, first, n, &self.buffers, slots.outputs()))?;
+        Refusal::check(ffi::array_values(&self.array, first, n, &*self.buffers, slots.answered.outputs()))?;
         Ok(slots)
     }
 
@@ -162,14 +162,14 @@ impl UnionArray {
 
     /// The column with an id.
     pub fn child(&self, type_id: i8) -> Result<Column<'_>, Refusal> {
-        let answer = ffi::array_child(&self.array, type_id, &self.buffers);
+        let answer = ffi::array_child(&self.array, type_id, &*self.buffers);
         Refusal::check(answer.refusal)?;
         Ok(Column::over(&answer.column, &self.buffers))
     }
 
     /// Slots o to o + n - 1, over the same memory.
     pub fn slice(&self, o: usize, n: usize) -> Result<UnionArray, Refusal> {
-        let answer = ffi::array_slice(&self.array, o, n, &self.buffers);
+        let answer = ffi::array_slice(&self.array, o, n, &*self.buffers);
         Refusal::check(answer.refusal)?;
         Ok(UnionArray::over(answer.array, Arc::clone(&self.buffers)))
     }
@@ -177,14 +177,14 @@ impl UnionArray {
     /// Which slots are null, by the route that costs least on a processor.
     pub fn logical_nulls(&self, processor: Processor) -> Result<LogicalNulls, Refusal> {
         let mut words = vec![0; mask_words(self.len())];
-        let answer = ffi::logical_nulls(&self.array, processor.cost, &self.buffers, &mut words);
+        let answer = ffi::logical_nulls(&self.array, processor.cost, &*self.buffers, &mut words);
         LogicalNulls::answered(answer, words, self.len())
     }
 
     /// Which slots are null, by one strategy.
     pub fn run_strategy(&self, strategy: Strategy) -> Result<LogicalNulls, Refusal> {
         let mut words = vec![0; mask_words(self.len())];
-        let answer = ffi::strategy(&self.array, strategy.number(), &self.buffers, &mut words);
+        let answer = ffi::strategy(&self.array, strategy.number(), &*self.buffers, &mut words);
         LogicalNulls::answered(answer, words, self.len())
     }
 }

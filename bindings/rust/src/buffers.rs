@@ -2,20 +2,27 @@
 
 use crate::ffi;
 
-/// The most slots of a builder, and the most columns.
+/// The most slots of a builder.
 pub(crate) const MAX_SLOTS: usize = 65_536;
-pub(crate) const MAX_COLUMNS: usize = 128;
+
+/// The most columns.
+pub const MAX_COLUMNS: usize = 128;
 
 /// The most bytes of a name.
-pub(crate) const NAME_BYTES: usize = 32;
+pub const NAME_BYTES: usize = 32;
 
-/// Type ids, offsets, value words, mask words, name bytes.
-#[derive(Clone, Debug, Default, PartialEq)]
-pub(crate) struct Buffers {
+/// The five parts, owned.
+#[derive(Clone, Debug, Default, PartialEq, Eq)]
+pub struct Buffers {
+    /// The type id of each slot.
     pub type_ids: Vec<i8>,
+    /// Where each slot of a dense union is in its column.
     pub offsets: Vec<i32>,
+    /// The value words of all columns.
     pub values: Vec<u64>,
+    /// The mask words of all columns.
     pub masks: Vec<u64>,
+    /// The name bytes of all columns.
     pub names: Vec<u8>,
 }
 
@@ -74,5 +81,17 @@ impl Buffers {
         } else {
             (column.mask, column.bit) = (0, 0);
         }
+    }
+}
+
+impl<'a> From<&'a Buffers> for ffi::Lent<'a> {
+    fn from(Buffers { type_ids, offsets, values, masks, names }: &'a Buffers) -> Self {
+        ffi::Lent { type_ids, offsets, values, masks, names }
+    }
+}
+
+impl<'a> From<&'a mut Buffers> for ffi::LentMut<'a> {
+    fn from(Buffers { type_ids, offsets, values, masks, names }: &'a mut Buffers) -> Self {
+        ffi::LentMut { type_ids, offsets, values, masks, names }
     }
 }

@@ -1,6 +1,10 @@
-//! The structs and functions of bindings/union.h, and a safe function for each. The crate's unsafe code is all here.
+//! The structs and functions of bindings/union.h: the raw interface. It is public for tests and benches, which call the
+//! library as C does. The crate's unsafe code is all here and in `calls`.
 
-use crate::buffers::{Buffers, MAX_COLUMNS, NAME_BYTES};
+mod calls;
+
+pub use crate::buffers::{Buffers, MAX_COLUMNS, NAME_BYTES};
+pub use calls::*;
 use std::mem::{offset_of, size_of};
 
 // ---------------------------------------------------------------------------------------------------------- structs
@@ -68,7 +72,7 @@ pub struct Child {
 }
 
 #[repr(C)]
-#[derive(Clone, Copy, Debug, PartialEq)]
+#[derive(Clone, Copy, Debug, Default, PartialEq)]
 pub struct NamePlace {
     pub start: usize,
     pub size: u8,
@@ -114,7 +118,7 @@ pub struct Nulls {
 }
 
 #[repr(C)]
-#[derive(Clone, Copy, Debug, PartialEq)]
+#[derive(Clone, Copy, Debug, Default, PartialEq)]
 pub struct BuilderColumn {
     pub slots: u32,
     pub size: u8,
@@ -232,175 +236,6 @@ functions! {
 
 unsafe extern "C" {
     fn union_builder_len(builder: Builder) -> Length;
-}
-
-/// The arguments of a call, with the pointers and lengths of lent memory that it reads and of its outputs.
-macro_rules! read {
-    ($name:ident($($argument:expr),*; $lent:ident $(; $out:ident)*)) => {
-        $name(
-            $($argument,)*
-            $lent.type_ids.as_ptr(), $lent.type_ids.len(), $lent.offsets.as_ptr(), $lent.offsets.len(),
-            $lent.values.as_ptr(), $lent.values.len(), $lent.masks.as_ptr(), $lent.masks.len(),
-            $lent.names.as_ptr(), $lent.names.len() $(, $out.as_mut_ptr(), $out.len())*
-        )
-    };
-}
-
-/// The same, with lent memory that the call writes.
-macro_rules! written {
-    ($name:ident($($argument:expr),*; $lent:ident $(; $out:ident)*)) => {
-        $name(
-            $($argument,)*
-            $lent.type_ids.as_mut_ptr(), $lent.type_ids.len(), $lent.offsets.as_mut_ptr(), $lent.offsets.len(),
-            $lent.values.as_mut_ptr(), $lent.values.len(), $lent.masks.as_mut_ptr(), $lent.masks.len(),
-            $lent.names.as_mut_ptr(), $lent.names.len() $(, $out.as_mut_ptr(), $out.len())*
-        )
-    };
-}
-
-// ---------------------------------------------------------------------------------------------- calls on an array
-
-pub fn array_try_new(array: &Array, lent: &Buffers) -> u8 {
-    // SAFETY: each pointer is that of a slice of the length beside it, borrowed for the call.
-    unsafe { read!(union_array_try_new(*array; lent)) }
-}
-
-pub fn array_value(array: &Array, i: usize, lent: &Buffers) -> Value {
-    // SAFETY: each pointer is that of a slice of the length beside it, borrowed for the call.
-    unsafe { read!(union_array_value(*array, i; lent)) }
-}
-
-pub fn array_type_id(array: &Array, i: usize, lent: &Buffers) -> TypeId {
-    // SAFETY: each pointer is that of a slice of the length beside it, borrowed for the call.
-    unsafe { read!(union_array_type_id(*array, i; lent)) }
-}
-
-pub fn array_value_offset(array: &Array, i: usize, lent: &Buffers) -> ValueOffset {
-    // SAFETY: each pointer is that of a slice of the length beside it, borrowed for the call.
-    unsafe { read!(union_array_value_offset(*array, i; lent)) }
-}
-
-pub fn array_child(array: &Array, id: i8, lent: &Buffers) -> Child {
-    // SAFETY: each pointer is that of a slice of the length beside it, borrowed for the call.
-    unsafe { read!(union_array_child(*array, id; lent)) }
-}
-
-pub fn array_type_names(array: &Array, lent: &Buffers) -> TypeNames {
-    // SAFETY: each pointer is that of a slice of the length beside it, borrowed for the call.
-    unsafe { read!(union_array_type_names(*array; lent)) }
-}
-
-pub fn array_is_dense(array: &Array, lent: &Buffers) -> Flag {
-    // SAFETY: each pointer is that of a slice of the length beside it, borrowed for the call.
-    unsafe { read!(union_array_is_dense(*array; lent)) }
-}
-
-pub fn array_is_nullable(array: &Array, lent: &Buffers) -> Flag {
-    // SAFETY: each pointer is that of a slice of the length beside it, borrowed for the call.
-    unsafe { read!(union_array_is_nullable(*array; lent)) }
-}
-
-pub fn array_type_ids(array: &Array, lent: &Buffers) -> Part {
-    // SAFETY: each pointer is that of a slice of the length beside it, borrowed for the call.
-    unsafe { read!(union_array_type_ids(*array; lent)) }
-}
-
-pub fn array_slice(array: &Array, o: usize, n: usize, lent: &Buffers) -> Slice {
-    // SAFETY: each pointer is that of a slice of the length beside it, borrowed for the call.
-    unsafe { read!(union_array_slice(*array, o, n; lent)) }
-}
-
-pub fn logical_nulls(array: &Array, cost: usize, lent: &Buffers, out: &mut [u64]) -> Nulls {
-    // SAFETY: each pointer is that of a slice of the length beside it, borrowed for the call; `out` mutably.
-    unsafe { read!(union_logical_nulls(*array, cost; lent; out)) }
-}
-
-pub fn strategy(array: &Array, strategy: u8, lent: &Buffers, out: &mut [u64]) -> Nulls {
-    // SAFETY: each pointer is that of a slice of the length beside it, borrowed for the call; `out` mutably.
-    unsafe { read!(union_strategy(*array, strategy; lent; out)) }
-}
-
-/// The outputs of a run of lookups.
-pub struct Outputs<'a> {
-    pub ids: &'a mut [i8],
-    pub missing: &'a mut [u8],
-    pub bits: &'a mut [u64],
-}
-
-pub fn array_values(array: &Array, first: usize, n: usize, lent: &Buffers, outputs: Outputs<'_>) -> u8 {
-    let Outputs { ids, missing, bits } = outputs;
-    // SAFETY: each pointer is that of a slice of the length beside it, borrowed for the call; outputs mutably.
-    unsafe { read!(union_array_values(*array, first, n; lent; ids; missing; bits)) }
-}
-
-// ------------------------------------------------------------------------------------ makings, calls on a builder
-
-pub fn builder_new_dense(limit: usize, lent: &Buffers) -> Built {
-    // SAFETY: each pointer is that of a slice of the length beside it, borrowed for the call.
-    unsafe { read!(union_builder_new_dense(limit; lent)) }
-}
-
-pub fn builder_new_sparse(limit: usize, lent: &Buffers) -> Built {
-    // SAFETY: each pointer is that of a slice of the length beside it, borrowed for the call.
-    unsafe { read!(union_builder_new_sparse(limit; lent)) }
-}
-
-pub fn builder_with_capacity_dense(capacity: usize, limit: usize, lent: &Buffers) -> Built {
-    // SAFETY: each pointer is that of a slice of the length beside it, borrowed for the call.
-    unsafe { read!(union_builder_with_capacity_dense(capacity, limit; lent)) }
-}
-
-pub fn builder_with_capacity_sparse(capacity: usize, limit: usize, lent: &Buffers) -> Built {
-    // SAFETY: each pointer is that of a slice of the length beside it, borrowed for the call.
-    unsafe { read!(union_builder_with_capacity_sparse(capacity, limit; lent)) }
-}
-
-pub fn builder_append(builder: &Builder, name: &[u8], kind: u8, bits: u64, lent: &mut Buffers) -> Built {
-    // SAFETY: each pointer is that of a slice of the length beside it, borrowed for the call; `lent` mutably.
-    unsafe { written!(union_builder_append(*builder, name.as_ptr(), name.len(), kind, bits; lent)) }
-}
-
-pub fn builder_append_null(builder: &Builder, name: &[u8], kind: u8, lent: &mut Buffers) -> Built {
-    // SAFETY: each pointer is that of a slice of the length beside it, borrowed for the call; `lent` mutably.
-    unsafe { written!(union_builder_append_null(*builder, name.as_ptr(), name.len(), kind; lent)) }
-}
-
-/// A run of readings: reading k's name is the `sizes[k]` bytes of `text` from `starts[k]` on.
-#[derive(Default)]
-pub struct Readings {
-    pub text: Vec<u8>,
-    pub starts: Vec<u32>,
-    pub sizes: Vec<u8>,
-    pub kinds: Vec<u8>,
-    pub present: Vec<u8>,
-    pub bits: Vec<u64>,
-}
-
-pub fn builder_appends(builder: &Builder, run: &Readings, lent: &mut Buffers, refusals: &mut [u8]) -> Built {
-    // SAFETY: each pointer is that of a slice of the length beside it, borrowed for the call; `lent` and `refusals`
-    // mutably.
-    unsafe {
-        written!(union_builder_appends(
-            *builder, run.text.as_ptr(), run.text.len(), run.starts.as_ptr(), run.starts.len(), run.sizes.as_ptr(),
-            run.sizes.len(), run.kinds.as_ptr(), run.kinds.len(), run.present.as_ptr(), run.present.len(),
-            run.bits.as_ptr(), run.bits.len(); lent; refusals
-        ))
-    }
-}
-
-pub fn builder_len(builder: &Builder) -> Length {
-    // SAFETY: no memory is lent.
-    unsafe { union_builder_len(*builder) }
-}
-
-pub fn builder_finish_cloned(builder: &Builder, lent: &Buffers) -> Finished {
-    // SAFETY: each pointer is that of a slice of the length beside it, borrowed for the call.
-    unsafe { read!(union_builder_finish_cloned(*builder; lent)) }
-}
-
-pub fn builder_finish(builder: &Builder, lent: &Buffers) -> Finished {
-    // SAFETY: each pointer is that of a slice of the length beside it, borrowed for the call.
-    unsafe { read!(union_builder_finish(*builder; lent)) }
 }
 
 #[cfg(test)]

@@ -39,7 +39,8 @@ mod builder;
 mod child;
 mod error;
 #[allow(unsafe_code)]
-mod ffi;
+#[doc(hidden)]
+pub mod ffi;
 mod kind;
 mod nulls;
 mod reading;

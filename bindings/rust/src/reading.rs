@@ -40,14 +40,8 @@ impl Run {
     const MOST: usize = 4096;
 
     pub fn push(&mut self, reading: &Reading<'_>) {
-        let name = name_part(reading.name);
-        let readings = &mut self.readings;
-        readings.starts.push(readings.text.len() as u32);
-        readings.sizes.push(name.len() as u8);
-        readings.text.extend_from_slice(name);
-        readings.kinds.push(reading.value.kind().number());
-        readings.present.push(u8::from(!reading.value.is_null()));
-        readings.bits.push(reading.value.word());
+        let value = reading.value;
+        self.readings.push(name_part(reading.name), value.kind().number(), !value.is_null(), value.word());
         self.refusals.push(0);
     }
 

@@ -84,9 +84,7 @@ pub struct Slot {
 /// A run of slots, read in one call of the library.
 #[derive(Clone)]
 pub struct Slots {
-    pub(crate) ids: Vec<i8>,
-    pub(crate) missing: Vec<u8>,
-    pub(crate) bits: Vec<u64>,
+    pub(crate) answered: ffi::Slots,
     columns: Vec<Named>,
     places: [u8; 128],
 }
@@ -107,28 +105,24 @@ impl Slots {
             places[column.id as usize] = place;
             columns.push(Named { name: Name::at(&array.buffers().names, column.name, column.size), kind: column.kind });
         }
-        Slots { ids: vec![0; n], missing: vec![0; n], bits: vec![0; n], columns, places }
-    }
-
-    pub(crate) fn outputs(&mut self) -> ffi::Outputs<'_> {
-        ffi::Outputs { ids: &mut self.ids, missing: &mut self.missing, bits: &mut self.bits }
+        Slots { answered: ffi::Slots::new(n, 0), columns, places }
     }
 
     /// How many slots the run has.
     pub fn len(&self) -> usize {
-        self.ids.len()
+        self.answered.ids.len()
     }
 
     /// Whether it has none.
     pub fn is_empty(&self) -> bool {
-        self.ids.is_empty()
+        self.answered.ids.is_empty()
     }
 
     /// Slot k of the run, as [`UnionArray::value`] tells it.
     pub fn get(&self, k: usize) -> Option<Slot> {
-        let type_id = *self.ids.get(k)?;
+        let type_id = *self.answered.ids.get(k)?;
         let column = self.columns[usize::from(self.places[type_id as usize])];
-        let value = Value::answered(column.kind, self.missing[k], self.bits[k]);
+        let value = Value::answered(column.kind, self.answered.missing[k], self.answered.bits[k]);
         Some(Slot { type_id, name: column.name, value })
     }
 
@@ -139,12 +133,12 @@ impl Slots {
 
     /// The type ids in order.
     pub fn type_ids(&self) -> &[i8] {
-        &self.ids
+        &self.answered.ids
     }
 
     /// The values in order, each in the low bits of a word, 0 where it is missing.
     pub fn words(&self) -> &[u64] {
-        &self.bits
+        &self.answered.bits
     }
 }
 

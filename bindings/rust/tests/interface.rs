@@ -164,6 +164,39 @@ fn declared() -> Declared {
     all
 }
 
+/// The places of a list, and the size of its struct at the end.
+fn placed(list: impl Iterator<Item = (String, String)>, size: &str) -> Vec<(String, String)> {
+    list.chain([("size".to_string(), size.to_string())]).collect()
+}
+
+/// The sizes and places that bindings/places.c asserts of the header.
+fn header_places() -> Declared {
+    let text = fs::read_to_string(path("bindings/places.c")).unwrap();
+    let field = |line: &str| {
+        let list = line.strip_prefix("FIELD(")?.strip_suffix(");")?;
+        let parts: Vec<_> = list.split(", ").collect();
+        Some((parts[1].to_string(), parts[3].to_string()))
+    };
+    let declared = |piece: &str| {
+        let (name, size) = piece.split_once(");").unwrap().0.split_once(", ").unwrap();
+        (c_type(name), placed(piece.lines().filter_map(field), size))
+    };
+    text.split("\nSIZE(").skip(1).map(declared).collect()
+}
+
+/// Those that src/ffi.rs asserts of the crate's structs.
+fn places() -> Declared {
+    let text = text("bindings/rust/src/ffi.rs");
+    let list = text.split_once("\nplaces! {\n").unwrap().1.split_once("\n}\n").unwrap().0;
+    let pair = |words: &str| words.trim().split_once(' ').map(|(a, b)| (a.to_string(), b.to_string())).unwrap();
+    let declared = |piece: &str| {
+        let (head, fields) = piece.split_once(':').unwrap();
+        let (name, size) = pair(head);
+        (name, placed(fields.split(',').map(pair), &size))
+    };
+    list.split(';').filter(|piece| !piece.trim().is_empty()).map(declared).collect()
+}
+
 fn same(what: &str, ours: &Declared, theirs: &Declared) {
     assert_eq!(ours.keys().collect::<Vec<_>>(), theirs.keys().collect::<Vec<_>>(), "{what}");
     for (name, parts) in ours {
@@ -177,7 +210,6 @@ fn structs_have_the_fields_of_union_c() {
     assert_eq!(exported.len(), 17);
     same("bindings/union.h", &header_structs(), &exported);
     same("bindings/rust/src/ffi.rs", &structs("bindings/rust/src/ffi.rs"), &exported);
-    same("differential/src/port/interface.rs", &structs("differential/src/port/interface.rs"), &exported);
 }
 
 #[test]
@@ -186,4 +218,14 @@ fn functions_have_the_parameters_of_union_ffi() {
     assert_eq!(exported.len(), 23);
     same("bindings/union.h", &header_functions(), &exported);
     same("bindings/rust/src/ffi.rs", &declared(), &exported);
+}
+
+#[test]
+fn places_are_asserted_of_every_field() {
+    let places = places();
+    same("bindings/places.c", &header_places(), &places);
+    for (name, fields) in structs("crates/union_c/src/lib.rt") {
+        let fields: Vec<_> = fields.iter().map(|(field, _)| field.as_str()).chain(["size"]).collect();
+        assert_eq!(places[&name].iter().map(|(field, _)| field.as_str()).collect::<Vec<_>>(), fields, "{name}");
+    }
 }

@@ -1,6 +1,7 @@
 -- Laws that belong to no one function.
 pub mod Words
 pub mod Tables
+pub mod Firsts
 pub mod Setting
 pub mod Ids
 pub mod Chunks

@@ -6,13 +6,14 @@ use Prim.Native.Nat.{ℕ, _+_, _≤_, _<_}
 use native.Mathlib.Numerals.{add-one}
 use native.Mathlib.Omega.{arith}
 use borrow.Author.Tests.{lt-ltb, le-ltb}
-use Rattle.union_array.specs.declared.Kind.{Kind}
-use Rattle.union_array.specs.declared.Layout.{Layout}
-use Rattle.union_array.specs.declared.Layout.the-variants.{Sparse, Dense}
+use Rattle.array_columns.specs.declared.Kind.{Kind}
+use Rattle.array_columns.specs.declared.Layout.{Layout}
+use Rattle.array_columns.specs.declared.Layout.the-variants.{Sparse, Dense}
 use Rattle.union_array.specs.Types.{byLayout, sameKind}
 use Rattle.builder_columns.specs.Columns.{BuilderColumn, opened}
 use Rattle.builder_columns.specs.Writing.{BuilderHead}
-use Rattle.builder_columns.specs.Planning.{Found, refusedPlan, foundPlan}
+use Rattle.builder_columns.specs.Finding.{Found}
+use Rattle.builder_columns.specs.Planning.{refusedPlan, foundPlan}
 
 pub first-slots-le : (l : Layout) (n : ℕ) → byLayout l n 0 ≤ n
 first-slots-le Sparse n = omega arith

@@ -9,7 +9,7 @@ use lib.ListN.{length, set}
 use lib.Seq.{paste}
 use Rattle.bitmap.specs.Bits.{wordsFor}
 use Rattle.union_array.specs.Types.{byLayout}
-use Rattle.union_array.specs.Buffers.{Buffers, buffersOf}
+use Rattle.array_columns.specs.Buffers.{Buffers, buffersOf}
 use Rattle.builder_columns.specs.Puts.{puts, putValue, putBit}
 use Rattle.builder_columns.specs.Writing.{BuilderHead, Plan, putsFor, writtenBy}
 

@@ -2,5 +2,6 @@
 pub mod Columns
 pub mod Puts
 -- What the contracts of inner functions cite.
+pub mod Finding
 pub mod Writing
 pub mod Planning

@@ -7,11 +7,11 @@ use lib.IntN.{pos}
 use lib.ListN.{length, set}
 use lib.Seq.{paste}
 use Rattle.bitmap.specs.Bits.{wordsFor}
-use Rattle.union_array.specs.declared.Amounts.{Amounts}
-use Rattle.union_array.specs.declared.Layout.{Layout}
-use Rattle.union_array.specs.declared.Layout.the-variants.{Sparse, Dense}
+use Rattle.array_columns.specs.declared.Amounts.{Amounts}
+use Rattle.array_columns.specs.declared.Layout.{Layout}
+use Rattle.array_columns.specs.declared.Layout.the-variants.{Sparse, Dense}
 use Rattle.union_array.specs.Types.{byLayout}
-use Rattle.union_array.specs.Buffers.{Buffers}
+use Rattle.array_columns.specs.Buffers.{Buffers}
 use Rattle.builder_columns.specs.Puts.{Put, put, filled, row, puts, putValue, putBit}
 pub use Rattle.builder_columns.specs.declared.BuilderHead.{BuilderHead}
 pub use Rattle.builder_columns.specs.declared.Plan.{Plan}

@@ -1,7 +1,7 @@
 // Columns: the column of zeros, a new one, and one with a slot more.
 use crate::BuilderColumn;
-use union_array::Kind;
-use union_array::Layout;
+use array_columns::Kind;
+use array_columns::Layout;
 ghost use mathlib.Core.Path.{_≡_};
 ghost use mathlib.Core.Bool.{not};
 ghost use Prim.Native.Nat.{_<_, _≤_};

@@ -1,11 +1,13 @@
 // A builder's columns, below its appends: a column, where an append goes, and what it writes.
 pub mod columns;
+pub mod find;
+pub mod fitting;
 pub mod planning;
 pub mod slots;
 pub mod store;
 
-use union_array::Kind;
-use union_array::Layout;
+use array_columns::Kind;
+use array_columns::Layout;
 
 // A column that is being built. Its id is its place in the builder.
 pub struct BuilderColumn {

@@ -62,14 +62,14 @@ pub fn write_natural(n: u64, out: &mut [u8]) -> usize
 
 // Puts the integer that the bits are in two's complement, at most `highest`, at the start of `out` and keeps the bytes after it; answers its length.
 pub fn write_integer(bits: u64, highest: u64, out: &mut [u8]) -> usize
-    requires { ⌜ (bits < 2 * highest + 2) × (2 * highest + 2 ≤ 18446744073709551616) × (21 ≤ length (now out)) ⌝ }
+    requires { ⌜ (bits < 2 * highest + 2) × (21 ≤ length (now out)) ⌝ }
     ensures { λ r. ⌜ record { size = r; bytes = now (out .exit) } ≡ output (integerText bits highest) (now (out .entry)) ⌝ }
 {
     if bits <= highest {
         return write_from(bits, 0, out);
     }
     out[0] = b'-';
-    write_from((2 * highest + 1 - bits) + 1, 1, out)
+    write_from((highest - (bits - highest - 1)) + 1, 1, out)
 }
 
 // Puts 0x and the last `count` hexadecimal digits at the start of `out` and keeps the bytes after them; answers their length.

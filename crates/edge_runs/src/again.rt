@@ -2,6 +2,7 @@
 use crate::play;
 use crate::print;
 use crate::same;
+use program_kit::output;
 use union_builder::UnionBuilder;
 
 // Whether the builder, the numbers and the memory by `append_mut` are the same as by `append`: type ids, offsets, values, masks, names.
@@ -40,5 +41,5 @@ pub fn compare(
     print::flag(same::words(values, &values2));
     print::flag(same::words(masks, &masks2));
     print::flag(same::bytes(names, &names2));
-    print::end();
+    output::end();
 }

@@ -1,43 +1,33 @@
 // An array's fields in list order: each one's id and name, and what `child` answers to the id.
-use crate::kinds;
 use crate::print;
+use array_columns::Column;
+use array_columns::kinds::kind_number;
+use program_kit::output;
+use program_kit::parts;
 use union_array::Child;
-use union_array::Column;
 use union_array::NamePlace;
 use union_array::UnionArray;
-
-// The n bytes from a start on; none if they are not there.
-fn part(list: &[u8], start: usize, n: usize) -> &[u8] {
-    if list.len() < start {
-        return &list[0..0];
-    }
-    if list.len() - start < n {
-        return &list[0..0];
-    }
-    let end = start + n;
-    &list[start..end]
-}
 
 // Where a child's name, values and mask are.
 fn places(c: Column) {
     print::count(b", name at", c.name);
-    print::size(c.size as usize);
+    output::size(c.size as usize);
     print::count(b", values at", c.values);
-    print::number(c.slots as u64);
+    output::number(c.slots as u64);
     if c.masked {
         print::count(b", mask at", c.mask);
-        print::size(c.bit as usize);
+        output::size(c.bit as usize);
     }
-    print::end();
+    output::end();
 }
 
 fn told(r: Child) {
     let c = r.column;
     let kind = c.kind;
     print::small(b"; child", r.refusal);
-    print::text(b", id");
-    print::id(c.id);
-    print::small(b", kind", kinds::number(kind));
+    output::text(b", id");
+    output::id(c.id);
+    print::small(b", kind", kind_number(kind));
     places(c);
 }
 
@@ -53,10 +43,10 @@ fn field(
 ) {
     let id = c.id;
     let size = place.size as usize;
-    print::text(b"  field: id");
-    print::id(id);
+    output::text(b"  field: id");
+    output::id(id);
     print::count(b", name", size);
-    print::bytes(part(names, place.start, size));
+    print::bytes(parts::bytes(names, place.start, size));
     told(a.child(id, ids, offsets, values, masks, names));
 }
 

@@ -1,5 +1,5 @@
 // One append with the builder lent.
-use union_array::Kind;
+use array_columns::Kind;
 use union_builder::Appended;
 use union_builder::UnionBuilder;
 

@@ -1,10 +1,10 @@
 // The lists of appends, by number. In a round, list 63, 64 or 65, of as many slots, entry i is in column a or b in turn and every third is
 // missing. Lists 1 to 4, 7 and 8 are pairs: a name of one byte, and its kind's number or - for a null of kind Int8. List 5 has the ten
 // kinds, list 6 the names.
-use crate::kinds;
 use crate::names;
 use crate::names::Name;
-use union_array::Kind;
+use array_columns::Kind;
+use array_columns::kinds;
 ghost use Prim.Native.Nat.{_<_};
 ghost use lib.ListN.{length};
 
@@ -94,7 +94,7 @@ fn marked(mark: u8) -> Kind {
     if mark < b'0' {
         return Kind::Int8;
     }
-    kinds::kind_of(mark - b'0')
+    kinds::kind_from(mark - b'0')
 }
 
 // Pair i; a pair that is not there is the first.
@@ -123,18 +123,34 @@ fn place(i: usize, n: usize) -> usize
     0
 }
 
+// A value's bits, as wide as the kind with its highest bit set; of a float, a NaN that signals.
+fn pattern(n: u8) -> u64 {
+    match n {
+        0 => 0xa5,
+        1 => 0xa5c3,
+        2 => 0xa5c3_9617,
+        3 => 0xa5c3_9617_7e81_4b2d,
+        4 => 0xb6,
+        5 => 0xb6d4,
+        6 => 0xb6d4_9728,
+        7 => 0xb6d4_9728_6f81_5c3e,
+        8 => 0xffa5_c396,
+        _ => 0xfff5_c396_177e_814b,
+    }
+}
+
 // Entry i of list 5: of each kind, all bits and then its pattern.
 fn of_kind(i: usize) -> Entry {
     let n = (i / 2 % 10) as u8;
     let bits = if i % 2 == 0 {
         0xffff_ffff_ffff_ffff
     } else {
-        kinds::pattern(n)
+        pattern(n)
     };
     Entry {
         name: letter(b'0' + n),
         bits: bits,
-        kind: kinds::kind_of(n),
+        kind: kinds::kind_from(n),
         missing: false,
     }
 }

@@ -1,8 +1,6 @@
 // Runs the edges of document 01 that are run. Every list of appends is played in both layouts, by `append` and by `append_mut`.
 mod again;
 mod fields;
-mod first;
-mod kinds;
 mod lend;
 mod lists;
 mod makings;
@@ -20,10 +18,12 @@ mod shown;
 mod slots;
 mod tell;
 
+use program_kit::output;
+
 fn list(title: &[u8], list: usize, dense: bool) {
     print::layout(dense);
-    print::text(title);
-    print::end();
+    output::text(title);
+    output::end();
     run::run(list, dense);
 }
 

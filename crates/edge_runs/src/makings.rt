@@ -1,66 +1,22 @@
 // Makings at the limits of slots and columns, and calls of a builder that are lent too little.
-use crate::first;
 use crate::print;
 use crate::read;
+use program_kit::makings::making;
+use program_kit::output;
+use program_kit::parts;
 use union_builder::Made;
 use union_builder::UnionBuilder;
 
-// The slots and the columns of each making; one of 1024 slots is by `new_dense` or `new_sparse`.
+// The slots and the columns of each making.
 const SLOTS: [usize; 10] = [0, 1, 1, 1, 1, 65536, 65537, 1024, 1024, 1024];
 
 const COLUMNS: [usize; 10] = [1, 0, 1, 128, 129, 1, 1, 0, 1, 2];
-
-fn dense_making(
-    slots: usize,
-    columns: usize,
-    ids: &[i8],
-    offsets: &[i32],
-    values: &[u64],
-    masks: &[u64],
-    names: &[u8],
-) -> Made {
-    if slots == 1024 {
-        return UnionBuilder::new_dense(columns, ids, offsets, values, masks, names);
-    }
-    UnionBuilder::with_capacity_dense(slots, columns, ids, offsets, values, masks, names)
-}
-
-fn sparse_making(
-    slots: usize,
-    columns: usize,
-    ids: &[i8],
-    offsets: &[i32],
-    values: &[u64],
-    masks: &[u64],
-    names: &[u8],
-) -> Made {
-    if slots == 1024 {
-        return UnionBuilder::new_sparse(columns, ids, offsets, values, masks, names);
-    }
-    UnionBuilder::with_capacity_sparse(slots, columns, ids, offsets, values, masks, names)
-}
-
-pub fn making(
-    dense: bool,
-    slots: usize,
-    columns: usize,
-    ids: &[i8],
-    offsets: &[i32],
-    values: &[u64],
-    masks: &[u64],
-    names: &[u8],
-) -> Made {
-    if dense {
-        return dense_making(slots, columns, ids, offsets, values, masks, names);
-    }
-    sparse_making(slots, columns, ids, offsets, values, masks, names)
-}
 
 // A making's number, and the builder that it gives.
 fn told(slots: usize, columns: usize, m: Made) {
     let b = m.builder;
     print::count(b" making of", slots);
-    print::size(columns);
+    output::size(columns);
     print::small(b":", m.refusal);
     read::state(b);
 }
@@ -102,11 +58,11 @@ fn short(
     names: &[u8],
 ) {
     let m = making(dense, 64, 2, ids, offsets, values, masks, names);
-    let i = first::ids(ids, less(64, 0, of));
-    let o = first::offsets(offsets, less(64, 1, of));
-    let v = first::words(values, less(128, 2, of));
-    let w = first::words(masks, less(2, 3, of));
-    let n = first::bytes(names, less(64, 4, of));
+    let i = parts::first_ids(ids, less(64, 0, of));
+    let o = parts::first_offsets(offsets, less(64, 1, of));
+    let v = parts::first_words(values, less(128, 2, of));
+    let w = parts::first_words(masks, less(2, 3, of));
+    let n = parts::first_bytes(names, less(64, 4, of));
     print::count(b" short of", of);
     numbers(dense, m.builder, i, o, v, w, n);
 }
@@ -136,8 +92,8 @@ pub fn lines(dense: bool) {
     let masks = [0u64; 128];
     let names = [0u8; 4096];
     print::layout(dense);
-    print::text(b", makings");
-    print::end();
+    output::text(b", makings");
+    output::end();
     limits(dense, &ids, &offsets, &values, &masks, &names);
     shorts(dense, &ids, &offsets, &values, &masks, &names);
 }

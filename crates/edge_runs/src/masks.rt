@@ -4,16 +4,18 @@ use logical_nulls::LogicalNulls;
 use logical_nulls::SparseStrategy;
 use logical_nulls::mask;
 use logical_nulls::named;
+use program_kit::output;
 use union_array::UnionArray;
 
 // An answer on a line: number, present, null count, route, words.
 fn answer(r: LogicalNulls, words: [u64; 3]) {
     print::small(b":", r.refusal);
     print::flag(r.present);
-    print::size(r.nulls);
-    print::size(r.route as usize);
-    print::words(&words);
-    print::end();
+    output::size(r.nulls);
+    let route = r.route;
+    output::size(route.number() as usize);
+    output::words(&words, true);
+    output::end();
 }
 
 fn at_setting(
@@ -71,16 +73,16 @@ pub fn strategies(
     names: &[u8],
 ) {
     let gather = SparseStrategy::Gather;
-    print::text(b"  gather");
+    output::text(b"  gather");
     by_strategy(a, gather, ids, offsets, values, masks, names);
     let one = SparseStrategy::SkipOne;
-    print::text(b"  skip one");
+    output::text(b"  skip one");
     by_strategy(a, one, ids, offsets, values, masks, names);
     let without = SparseStrategy::SkipWithoutNulls;
-    print::text(b"  skip without nulls");
+    output::text(b"  skip without nulls");
     by_strategy(a, without, ids, offsets, values, masks, names);
     let full = SparseStrategy::SkipFullyNull;
-    print::text(b"  skip fully null");
+    output::text(b"  skip fully null");
     by_strategy(a, full, ids, offsets, values, masks, names);
 }
 

@@ -1,9 +1,10 @@
 // What is noted of an append: 65536 times its number, and the length after it.
-use crate::first;
-use crate::kinds;
 use crate::lists;
 use crate::lists::Entry;
 use crate::print;
+use array_columns::kinds::kind_number;
+use program_kit::output;
+use program_kit::parts;
 use union_builder::Appended;
 
 pub fn note(told: &mut [u64], i: usize, r: Appended) {
@@ -15,18 +16,18 @@ pub fn note(told: &mut [u64], i: usize, r: Appended) {
 }
 
 fn told(note: u64) {
-    print::number(note / 65536);
-    print::text(b", length");
-    print::number(note % 65536);
+    output::number(note / 65536);
+    output::text(b", length");
+    output::number(note % 65536);
 }
 
 fn value(e: Entry) {
     if e.missing {
-        print::text(b", missing:");
+        output::text(b", missing:");
     } else {
-        print::text(b", bits");
-        print::word(e.bits);
-        print::text(b":");
+        output::text(b", bits");
+        output::word(e.bits);
+        output::text(b":");
     }
 }
 
@@ -35,12 +36,12 @@ fn line(e: Entry, note: u64) {
     let n = e.name;
     let bytes = n.bytes;
     let kind = e.kind;
-    print::text(b" append");
-    print::bytes(first::bytes(&bytes, n.size));
-    print::small(b", kind", kinds::number(kind));
+    output::text(b" append");
+    print::bytes(parts::first_bytes(&bytes, n.size));
+    print::small(b", kind", kind_number(kind));
     value(e);
     told(note);
-    print::end();
+    output::end();
 }
 
 // Of a round, the refused appends only.
@@ -49,9 +50,9 @@ fn refusal(i: usize, note: u64) {
         return;
     }
     print::count(b" append", i);
-    print::text(b":");
+    output::text(b":");
     told(note);
-    print::end();
+    output::end();
 }
 
 fn appended(list: usize, i: usize, note: u64) {

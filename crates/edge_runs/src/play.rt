@@ -1,10 +1,10 @@
 // Builders that play a list.
-use crate::first;
 use crate::lend;
 use crate::lists;
 use crate::lists::Entry;
-use crate::makings;
 use crate::notes;
+use program_kit::makings::making;
+use program_kit::parts;
 use union_array::slices;
 use union_builder::Appended;
 use union_builder::Finished;
@@ -24,7 +24,7 @@ fn put(
     let n = e.name;
     let bytes = n.bytes;
     let kind = e.kind;
-    let name = first::bytes(&bytes, n.size);
+    let name = parts::first_bytes(&bytes, n.size);
     if e.missing {
         return b.append_null(name, kind, ids, offsets, values, masks, names);
     }
@@ -73,7 +73,7 @@ fn made(
     names: &[u8],
 ) -> UnionBuilder {
     let s = lists::sizes_of(list);
-    let m = makings::making(
+    let m = making(
         dense,
         s.slots,
         s.columns,

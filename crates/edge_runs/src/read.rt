@@ -1,24 +1,25 @@
 // What a builder finishes, read back: fields, slots, type ids.
 use crate::fields;
-use crate::first;
 use crate::print;
 use crate::same;
 use crate::shown;
 use crate::slots;
+use program_kit::output;
+use program_kit::parts;
 use union_array::UnionArray;
 use union_builder::UnionBuilder;
 
 // A builder's layout, slots and columns, and those in use.
 pub fn state(b: UnionBuilder) {
     let l = b.layout;
-    print::text(b", a ");
+    output::text(b", a ");
     print::layout(same::is_dense(l));
-    print::text(b" builder");
-    print::size(b.capacity);
-    print::size(b.limit);
-    print::size(b.len);
-    print::size(b.count);
-    print::end();
+    output::text(b" builder");
+    output::size(b.capacity);
+    output::size(b.limit);
+    output::size(b.len);
+    output::size(b.count);
+    output::end();
 }
 
 fn flags(a: UnionArray, ids: &[i8], offsets: &[i32], values: &[u64], masks: &[u64], names: &[u8]) {
@@ -28,22 +29,22 @@ fn flags(a: UnionArray, ids: &[i8], offsets: &[i32], values: &[u64], masks: &[u6
     print::flag(d.holds);
     print::small(b", is_nullable", n.refusal);
     print::flag(n.holds);
-    print::end();
+    output::end();
 }
 
 // The first of each kind of memory.
 pub fn memory(ids: &[i8], offsets: &[i32], values: &[u64], masks: &[u64], names: &[u8]) {
-    print::text(b"  memory: type ids");
-    print::ids(first::ids(ids, 6));
-    print::text(b", offsets");
-    print::offsets(first::offsets(offsets, 6));
-    print::text(b", masks");
-    print::words(first::words(masks, 3));
-    print::text(b"\n   values");
-    print::words(first::words(values, 15));
-    print::text(b"\n   names");
-    print::bytes(first::bytes(names, 96));
-    print::end();
+    output::text(b"  memory: type ids");
+    output::ids(parts::first_ids(ids, 6));
+    output::text(b", offsets");
+    output::offsets(parts::first_offsets(offsets, 6), b" -");
+    output::text(b", masks");
+    output::words(parts::first_words(masks, 3), true);
+    output::text(b"\n   values");
+    output::words(parts::first_words(values, 15), true);
+    output::text(b"\n   names");
+    print::bytes(parts::first_bytes(names, 96));
+    output::end();
 }
 
 pub fn finished(

@@ -3,6 +3,7 @@ use crate::fields;
 use crate::masks as null_masks;
 use crate::print;
 use crate::tell;
+use program_kit::output;
 use union_array::UnionArray;
 use union_builder::UnionBuilder;
 
@@ -21,7 +22,7 @@ fn read_back(
     print::small(b"  try_new", a.try_new(ids, offsets, values, masks, names));
     let count = tell::count(a, first, end, ids, offsets, values, masks, names);
     print::count(b", slots that tell their entry", count);
-    print::end();
+    output::end();
     null_masks::settings(a, ids, offsets, values, masks, names);
     null_masks::strategies(a, ids, offsets, values, masks, names);
 }
@@ -58,6 +59,6 @@ pub fn snapshot(
     names: &[u8],
 ) {
     print::count(b" snapshot at slot", a.count);
-    print::end();
+    output::end();
     read_back(a, 0, a.count, ids, offsets, values, masks, names);
 }

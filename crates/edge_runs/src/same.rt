@@ -1,8 +1,9 @@
 // Whether two builders, or two lists, are the same.
-use crate::kinds;
+use array_columns::Layout;
+use array_columns::kinds::same_kind;
 use builder_columns::BuilderColumn;
-use union_array::Layout;
 use union_builder::UnionBuilder;
+use union_names::names;
 
 pub fn ids(a: &[i8], b: &[i8]) -> bool {
     if a.len() != b.len() {
@@ -41,15 +42,7 @@ pub fn words(a: &[u64], b: &[u64]) -> bool {
 }
 
 pub fn bytes(a: &[u8], b: &[u8]) -> bool {
-    if a.len() != b.len() {
-        return false;
-    }
-    for i in 0..a.len() {
-        if a[i] != b[i] {
-            return false;
-        }
-    }
-    true
+    names::same_name(a, 0, a.len(), b)
 }
 
 pub fn is_dense(l: Layout) -> bool {
@@ -62,7 +55,7 @@ pub fn is_dense(l: Layout) -> bool {
 fn column(a: BuilderColumn, b: BuilderColumn) -> bool {
     let k = a.kind;
     let l = b.kind;
-    if kinds::number(k) != kinds::number(l) {
+    if !same_kind(k, l) {
         return false;
     }
     a.slots == b.slots && a.size == b.size && a.masked == b.masked

@@ -1,6 +1,7 @@
 // The type ids that an array, or a slice of it, shows as a part of the caller's memory.
-use crate::first;
 use crate::print;
+use program_kit::output;
+use program_kit::parts;
 use union_array::UnionArray;
 
 fn line(a: UnionArray, ids: &[i8], offsets: &[i32], values: &[u64], masks: &[u64], names: &[u8]) {
@@ -8,8 +9,8 @@ fn line(a: UnionArray, ids: &[i8], offsets: &[i32], values: &[u64], masks: &[u64
     let part = a.type_ids(&mut refusal, ids, offsets, values, masks, names);
     print::small(b":", refusal);
     print::count(b", shown", part.len());
-    print::ids(part);
-    print::end();
+    output::ids(part);
+    output::end();
 }
 
 // Of an array of n slots, of its slice from slot 1 on, and with one type id too few lent.
@@ -25,12 +26,19 @@ pub fn lines(
     if n < 1 {
         return;
     }
-    print::text(b"  type_ids");
+    output::text(b"  type_ids");
     line(a, ids, offsets, values, masks, names);
     let s = a.slice(1, n - 1, ids, offsets, values, masks, names);
     let part = s.array;
-    print::text(b"  type_ids from slot 1 on");
+    output::text(b"  type_ids from slot 1 on");
     line(part, ids, offsets, values, masks, names);
-    print::text(b"  type_ids, one too few lent");
-    line(a, first::ids(ids, n - 1), offsets, values, masks, names);
+    output::text(b"  type_ids, one too few lent");
+    line(
+        a,
+        parts::first_ids(ids, n - 1),
+        offsets,
+        values,
+        masks,
+        names,
+    );
 }

@@ -1,29 +1,30 @@
 // An array's slots: what `type_id`, `value_offset` and `value` answer.
-use crate::kinds;
 use crate::print;
+use array_columns::Value;
+use array_columns::kinds::kind_number;
+use program_kit::output;
 use union_array::UnionArray;
-use union_array::Value;
 
 // The bits, or missing, and the name's length and its 32 bytes.
 fn bits(v: Value) {
     let name = v.name;
     if v.missing {
-        print::text(b", missing,");
+        output::text(b", missing,");
     } else {
-        print::text(b", bits");
+        output::text(b", bits");
     }
-    print::word(v.bits);
+    output::word(v.bits);
     print::small(b", name", v.size);
     print::bytes(&name);
-    print::end();
+    output::end();
 }
 
 fn told(v: Value) {
     let kind = v.kind;
     print::small(b", value", v.refusal);
-    print::text(b", id");
-    print::id(v.id);
-    print::small(b", kind", kinds::number(kind));
+    output::text(b", id");
+    output::id(v.id);
+    print::small(b", kind", kind_number(kind));
     bits(v);
 }
 
@@ -40,10 +41,10 @@ fn slot(
     let o = a.value_offset(i, ids, offsets, values, masks, names);
     print::count(b"  slot", i);
     print::small(b": type_id", t.refusal);
-    print::text(b", id");
-    print::id(t.id);
+    output::text(b", id");
+    output::id(t.id);
     print::small(b", value_offset", o.refusal);
-    print::size(o.offset);
+    output::size(o.offset);
     told(a.value(i, ids, offsets, values, masks, names));
 }
 

@@ -1,9 +1,9 @@
 // Whether slots tell the entries of a round.
-use crate::kinds;
 use crate::lists;
 use crate::lists::Entry;
+use array_columns::Value;
+use array_columns::kinds::same_kind;
 use union_array::UnionArray;
-use union_array::Value;
 
 // Whether a value's 32 name bytes are a name's, with zeros after it.
 fn is_name(a: [u8; 32], b: [u8; 33]) -> bool {
@@ -33,7 +33,7 @@ fn is_entry(v: Value, e: Entry, id: i8) -> bool {
     if !bitmap::same_id(v.id, id) {
         return false;
     }
-    if kinds::number(k) != kinds::number(l) {
+    if !same_kind(k, l) {
         return false;
     }
     if !is_size(v.size, n.size) {

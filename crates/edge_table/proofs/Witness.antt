@@ -5,14 +5,14 @@ use mathlib.Core.Logic.{inl, inr}
 use Prim.Native.Nat.{ℕ}
 use Rattle.bitmap.specs.Lists.{retable}
 use Rattle.bitmap.specs.Bits.{testBit, pack, wordsFor, setBit}
-use Rattle.union_array.specs.declared.Kind.the-variants.{Int8}
-use Rattle.union_array.specs.declared.Layout.{Layout}
-use Rattle.union_array.specs.declared.Layout.the-variants.{Dense, Sparse}
-use Rattle.union_array.specs.Buffers.{Buffers}
+use Rattle.array_columns.specs.declared.Kind.the-variants.{Int8}
+use Rattle.array_columns.specs.declared.Layout.{Layout}
+use Rattle.array_columns.specs.declared.Layout.the-variants.{Dense, Sparse}
+use Rattle.array_columns.specs.Buffers.{Buffers}
 use Rattle.union_array.specs.Types.{lowBits}
 use Rattle.union_names.specs.Utf8.{following, utf8}
 use Rattle.union_names.specs.Names.{question17}
-use Rattle.union_builder.specs.Builder.{columnFits, question15, question16, builderChecked, madeOf, namesOf}
+use Rattle.union_builder.specs.Builder.{columnFits, question15, question16, builderChecked, openChecked, madeOf, known}
 use Rattle.union_builder.specs.Append.{appendChecked, builderAfter, buffersAfter, appendWith}
 use Rattle.union_builder.specs.Finish.{finishClonedOf}
 use Rattle.union_history.specs.Claim as Claim
@@ -41,7 +41,7 @@ unfolding rowCalls three PremiseMetOn
 row-proper l = premise-met-on (fresh l) three refl
 
 row-answered : (l : Layout) → map (λ r. r .refusal) (replies (fresh l) (rowCalls l)) ≡ 0 ∷ 0 ∷ 0 ∷ 0 ∷ []
-unfolding rowCalls three fresh held retable testBit pack wordsFor setBit lowBits following utf8 question17 columnFits question15 question16 builderChecked madeOf namesOf appendChecked builderAfter buffersAfter appendWith finishClonedOf step
+unfolding rowCalls three fresh held retable testBit pack wordsFor setBit lowBits following utf8 question17 columnFits question15 question16 builderChecked openChecked madeOf known appendChecked builderAfter buffersAfter appendWith finishClonedOf step
 row-answered Sparse = refl
 row-answered Dense = refl
 
@@ -51,13 +51,13 @@ refused-made Sparse = refl
 refused-made Dense = refl
 
 refused-answered : (l : Layout) → map (λ r. r .refusal) (replies (single l) (refusedCalls l)) ≡ 0 ∷ 16 ∷ 17 ∷ 18 ∷ 20 ∷ 0 ∷ 19 ∷ 0 ∷ []
-unfolding refusedCalls one single small little retable testBit pack wordsFor setBit lowBits following utf8 question17 columnFits question15 question16 builderChecked madeOf namesOf appendChecked builderAfter buffersAfter appendWith finishClonedOf step
+unfolding refusedCalls one single small little retable testBit pack wordsFor setBit lowBits following utf8 question17 columnFits question15 question16 builderChecked openChecked madeOf known appendChecked builderAfter buffersAfter appendWith finishClonedOf step
 refused-answered Sparse = refl
 refused-answered Dense = refl
 
 -- the second call is lent too little
 refused-16 : (l : Layout) → (reply (atEnd (single l) (one l)) (Claim.append little (65 ∷ []) Int8 8)) .refusal ≡ 16
-unfolding one single small little retable testBit pack wordsFor setBit lowBits following utf8 question17 columnFits question15 question16 builderChecked madeOf namesOf appendChecked builderAfter buffersAfter appendWith step
+unfolding one single small little retable testBit pack wordsFor setBit lowBits following utf8 question17 columnFits question15 question16 builderChecked openChecked madeOf known appendChecked builderAfter buffersAfter appendWith step
 refused-16 Sparse = refl
 refused-16 Dense = refl
 

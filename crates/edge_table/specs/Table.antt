@@ -1,18 +1,18 @@
 -- Document 01, "At the edges": each edge marked P is a row, with what the definitions answer and what 01 says. A text in quotes is 01's.
 use mathlib.Core.Path.{_≡_}
-use mathlib.Core.Bool.{true, false}
+use mathlib.Core.Bool.{Bool, true, false}
 use mathlib.Core.List.{List, [], _∷_, _++_, map}
 use Prim.Native.Nat.{ℕ, _-_}
 use lib.IntN.{ℤ, pos, negsuc}
 use lib.ListN.{length, take, drop, replicate}
 use Rattle.bitmap.specs.Bits.{digit}
-use Rattle.union_array.specs.declared.Column.{Column}
+use Rattle.array_columns.specs.declared.Column.{Column}
 use Rattle.union_array.specs.declared.UnionArray.{UnionArray}
-use Rattle.union_array.specs.declared.Kind.the-variants.{Int8}
-use Rattle.union_array.specs.declared.Layout.{Layout}
-use Rattle.union_array.specs.declared.Layout.the-variants.{Sparse, Dense}
+use Rattle.array_columns.specs.declared.Kind.the-variants.{Int8}
+use Rattle.array_columns.specs.declared.Layout.{Layout}
+use Rattle.array_columns.specs.declared.Layout.the-variants.{Sparse, Dense}
 use Rattle.union_array.specs.Types.{noColumn}
-use Rattle.union_array.specs.Buffers.{Buffers, buffersOf}
+use Rattle.array_columns.specs.Buffers.{Buffers, buffersOf}
 use Rattle.union_array.specs.Lookup.{tryNewOf}
 use Rattle.union_array.specs.Slices.{sliceOf}
 use Rattle.logical_nulls.specs.declared.SparseStrategy.{SparseStrategy}
@@ -35,13 +35,16 @@ unfoldable pub numbers : List ℕ → List ℤ
 numbers ns = map (λ n. pos n) ns
 
 -- ---- arrays over a little memory
--- a child of n slots, its values from word 0 on, with no mask
-unfoldable pub plain : ℕ → ℕ → Column
-plain id n = record { values = 0; mask = 0; name = 0; slots = n; bit = 0; size = 0; id = pos id; kind = Int8; masked = false }
+-- a child of n slots, its values from word 0 on, its mask from bit 0 of a mask word on
+unfoldable pub child : ℕ → ℕ → ℕ → Bool → Column
+child id n word masked = record { values = 0; mask = word; name = 0; slots = n; bit = 0; size = 0; id = pos id; kind = Int8; masked = masked }
 
--- the same with a mask, from bit 0 of a mask word on
+-- one with no mask, and one with a mask
+unfoldable pub plain : ℕ → ℕ → Column
+plain id n = child id n 0 false
+
 unfoldable pub withMask : ℕ → ℕ → ℕ → Column
-withMask id n word = record { values = 0; mask = word; name = 0; slots = n; bit = 0; size = 0; id = pos id; kind = Int8; masked = true }
+withMask id n word = child id n word true
 
 -- the array of n slots with the children
 unfoldable pub array : Layout → List Column → ℕ → UnionArray

@@ -4,13 +4,13 @@ use mathlib.Core.List.{List, [], _∷_, _++_, map}
 use Prim.Native.Nat.{ℕ}
 use lib.IntN.{pos}
 use lib.ListN.{replicate}
-use Rattle.union_array.specs.declared.Kind.the-variants.{Int8, Int16}
-use Rattle.union_array.specs.declared.Layout.{Layout}
-use Rattle.union_array.specs.Buffers.{Buffers, buffersOf}
+use Rattle.array_columns.specs.declared.Kind.the-variants.{Int8, Int16}
+use Rattle.array_columns.specs.declared.Layout.{Layout}
+use Rattle.array_columns.specs.Buffers.{Buffers, buffersOf}
 use Rattle.union_builder.specs.Builder.{madeOf}
 use Rattle.union_history.specs.Claim as Claim
-use Rattle.union_history.specs.Claim.{AllTold, Call, Proper, State, atEnd, fed, freshLog, replies, start}
-use Rattle.union_history.specs.Log.{logReplies}
+use Rattle.union_history.specs.Claim.{AllTold, Call, Proper, State, atEnd, fed, replies, start}
+use Rattle.union_history.specs.Log.{freshLog, logReplies}
 use Rattle.union_history.specs.Premise.{Ask, append, finish-cloned, inTurn}
 use Rattle.edge_table.specs.Table.{fresh, held, three}
 

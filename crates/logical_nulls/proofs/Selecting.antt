@@ -15,12 +15,11 @@ use lib.IntN.{ℤ, pos}
 use lib.Bits.{bitAnd, bitOr}
 use Rattle.bitmap.specs.Bits.{sameId, selectionOf}
 use Rattle.bitmap.proofs.Words.{pack-ext, pack-none, and-pack, or-pack, not-pack, low-pack, or-false}
-use Rattle.union_array.specs.declared.Column.{Column}
-use Rattle.union_array.specs.Buffers.{Buffers, onlyMasks}
+use Rattle.array_columns.specs.declared.Column.{Column}
+use Rattle.union_array.specs.Types.{noColumn}
+use Rattle.array_columns.specs.Buffers.{Buffers}
 use Rattle.union_array.specs.Slots.{present, presenceChunk}
-use Rattle.null_strategy.specs.declared.Field.{Field}
-use Rattle.null_strategy.specs.Fields.{noField, asColumn}
-use Rattle.logical_nulls.specs.Steps.{Taken, All, WithNulls, NotFull, any, wordOf, fieldPresent, takes, idAt, orOf, chosen, selectedAt, presentAt, skipOneAt, skipWithoutAt, skipFullyAt}
+use Rattle.logical_nulls.specs.Steps.{any, wordOf, idAt, orOf, selectedAt, presentAt, skipOneAt, skipWithoutAt, skipFullyAt}
 
 -- ---- any
 
@@ -32,18 +31,18 @@ pub or-parts : (a b : Bool) → (a || b) ≡ false → (a ≡ false) × (b ≡ f
 or-parts true b e = (cc, cc)
 or-parts false b e = (refl, e)
 
-pub any-ext : (g h : Field → Bool) (l : List Field) → ((f : Field) → g f ≡ h f) → any g l ≡ any h l
+pub any-ext : (g h : Column → Bool) (l : List Column) → ((f : Column) → g f ≡ h f) → any g l ≡ any h l
 unfolding any
 any-ext g h [] e = refl
 any-ext g h (f ∷ l) e = ap₂ _||_ (e f) (any-ext g h l e)
 
-any-snoc : (g : Field → Bool) (l : List Field) (f : Field) → any g (l ++ f ∷ []) ≡ (any g l || g f)
+any-snoc : (g : Column → Bool) (l : List Column) (f : Column) → any g (l ++ f ∷ []) ≡ (any g l || g f)
 unfolding any
 any-snoc g [] f = or-false (g f)
 any-snoc g (x ∷ l) f = ap (λ (b : Bool). g x || b) (any-snoc g l f) ∙ sym (or-assoc (g x) (any g l) (g f))
 
 -- what fails h fails g
-pub any-less : (g h : Field → Bool) (l : List Field) → ((f : Field) → h f ≡ false → g f ≡ false) → any h l ≡ false → any g l ≡ false
+pub any-less : (g h : Column → Bool) (l : List Column) → ((f : Column) → h f ≡ false → g f ≡ false) → any h l ≡ false → any g l ≡ false
 unfolding any
 any-less g h [] i e = refl
 any-less g h (f ∷ l) i e = let p = or-parts (h f) (any h l) e in ap₂ _||_ (i f (p .0)) (any-less g h l i (p .1))
@@ -143,68 +142,64 @@ module _ (len k : ℕ) where
 -- ---- one more field
 
 -- the part from `a` to q, and one more
-part-more : (l : List Field) (a q : ℕ) → a ≤ q → q < length l → drop a (take (q + 1) l) ≡ drop a (take q l) ++ (getD l q noField ∷ [])
+part-more : (l : List Column) (a q : ℕ) → a ≤ q → q < length l → drop a (take (q + 1) l) ≡ drop a (take q l) ++ (getD l q noColumn ∷ [])
 part-more l a q h b =
-    ap (λ (n : ℕ). drop a (take n l)) (add-one q) ∙ ap (drop a) (take-suc l q noField b)
-    ∙ drop-append-le a (take q l) (getD l q noField ∷ []) (omega (arith, length-take-le q l (omega arith)))
+    ap (λ (n : ℕ). drop a (take n l)) (add-one q) ∙ ap (drop a) (take-suc l q noColumn b)
+    ∙ drop-append-le a (take q l) (getD l q noColumn ∷ []) (omega (arith, length-take-le q l (omega arith)))
 
-part-none : (l : List Field) (a : ℕ) → a ≤ length l → drop a (take a l) ≡ []
+part-none : (l : List Column) (a : ℕ) → a ≤ length l → drop a (take a l) ≡ []
 part-none l a h = ap (λ (n : ℕ). drop n (take a l)) (sym (length-take-le a l h)) ∙ drop-length (take a l)
 
-module _ (over : Taken) (fl : List Field) (masks : List ℕ) (ids : List ℤ) (s len k a : ℕ) where
-  -- the words of the fields from a to q
+module _ (fl : List Column) (words : Buffers) (ids : List ℤ) (s len k a : ℕ) where
+  -- the words of the columns from a to q
   abbrev pub selectedTo : ℕ → ℕ
-  selectedTo q = wordOf len (selectedAt over (drop a (take q fl)) ids s) k
+  selectedTo q = wordOf len (selectedAt (drop a (take q fl)) ids s) k
 
   abbrev pub presentTo : ℕ → ℕ
-  presentTo q = wordOf len (presentAt over (drop a (take q fl)) masks ids s) k
+  presentTo q = wordOf len (presentAt (drop a (take q fl)) words ids s) k
 
   module _ (h : a ≤ length fl) where
     pub selected-none : 0 ≡ selectedTo a
     unfolding any
-    selected-none = sym (ap (λ (l : List Field). wordOf len (selectedAt over l ids s) k) (part-none fl a h) ∙ word-none len k _ (λ i l. refl))
+    selected-none = sym (ap (λ (l : List Column). wordOf len (selectedAt l ids s) k) (part-none fl a h) ∙ word-none len k _ (λ i l. refl))
 
     pub present-none : 0 ≡ presentTo a
     unfolding any
-    present-none = sym (ap (λ (l : List Field). wordOf len (presentAt over l masks ids s) k) (part-none fl a h) ∙ word-none len k _ (λ i l. refl))
+    present-none = sym (ap (λ (l : List Column). wordOf len (presentAt l words ids s) k) (part-none fl a h) ∙ word-none len k _ (λ i l. refl))
 
   module _ (q : ℕ) (h : a ≤ q) (b : q < length fl) where
-    some-more : (g : Field → Bool) → any g (drop a (take (q + 1) fl)) ≡ (any g (drop a (take q fl)) || g (getD fl q noField))
-    some-more g = ap (any g) (part-more fl a q h b) ∙ any-snoc g (drop a (take q fl)) (getD fl q noField)
+    some-more : (g : Column → Bool) → any g (drop a (take (q + 1) fl)) ≡ (any g (drop a (take q fl)) || g (getD fl q noColumn))
+    some-more g = ap (any g) (part-more fl a q h b) ∙ any-snoc g (drop a (take q fl)) (getD fl q noColumn)
 
-    module _ (e : takes over (getD fl q noField .state) ≡ true) where
-      pub selected-more : (x : ℕ) → x ≡ wordOf len (λ i. sameId (idAt ids s i) (getD fl q noField .id)) k → bitOr (selectedTo q) x ≡ selectedTo (q + 1)
-      selected-more x ex =
-          ap (bitOr (selectedTo q)) ex ∙ word-or len k _ _
-          ∙ word-ext len k _ _ (λ i l.
-          ap (λ (c : Bool). selectedAt over (drop a (take q fl)) ids s i || (c && sameId (idAt ids s i) (getD fl q noField .id))) (sym e) ∙ sym (some-more (chosen over (idAt ids s i))))
+    pub selected-more : (x : ℕ) → x ≡ wordOf len (λ i. sameId (idAt ids s i) (getD fl q noColumn .id)) k → bitOr (selectedTo q) x ≡ selectedTo (q + 1)
+    selected-more x ex =
+        ap (bitOr (selectedTo q)) ex ∙ word-or len k _ _
+        ∙ word-ext len k _ _ (λ i l. sym (some-more (λ c. sameId (idAt ids s i) (c .id))))
 
-      pub present-more : (x y : ℕ) → x ≡ wordOf len (λ i. sameId (idAt ids s i) (getD fl q noField .id)) k → y ≡ presenceChunk (asColumn (getD fl q noField)) (onlyMasks masks) len k
-          → bitOr (presentTo q) (bitAnd x y) ≡ presentTo (q + 1)
-      present-more x y ex ey =
-          ap (bitOr (presentTo q)) (ap₂ bitAnd ex (ey ∙ word-presence len k (asColumn (getD fl q noField)) (onlyMasks masks)) ∙ word-and len k _ _) ∙ word-or len k _ _
-          ∙ word-ext len k _ _ (λ i l.
-          ap (λ (c : Bool). presentAt over (drop a (take q fl)) masks ids s i || ((c && sameId (idAt ids s i) (getD fl q noField .id)) && fieldPresent masks i (getD fl q noField))) (sym e)
-          ∙ sym (some-more (λ f. chosen over (idAt ids s i) f && fieldPresent masks i f)))
+    pub present-more : (x y : ℕ) → x ≡ wordOf len (λ i. sameId (idAt ids s i) (getD fl q noColumn .id)) k → y ≡ presenceChunk (getD fl q noColumn) words len k
+        → bitOr (presentTo q) (bitAnd x y) ≡ presentTo (q + 1)
+    present-more x y ex ey =
+        ap (bitOr (presentTo q)) (ap₂ bitAnd ex (ey ∙ word-presence len k (getD fl q noColumn) words) ∙ word-and len k _ _) ∙ word-or len k _ _
+        ∙ word-ext len k _ _ (λ i l. sym (some-more (λ c. sameId (idAt ids s i) (c .id) && present c words i)))
 
 -- ---- the word of each step, from the words of its selection
 
-module _ (l : List Field) (masks : List ℕ) (ids : List ℤ) (s len k : ℕ) where
-  pub one-word : bitOr (wordOf len (presentAt All (drop 1 l) masks ids s) k)
-      (bitAnd ((2 ^ 64 - 1) - wordOf len (selectedAt All (drop 1 l) ids s) k) (presenceChunk (asColumn (getD l 0 noField)) (onlyMasks masks) len k))
-      ≡ wordOf len (skipOneAt l masks ids s) k
+module _ (l : List Column) (words : Buffers) (ids : List ℤ) (s len k : ℕ) where
+  pub one-word : bitOr (wordOf len (presentAt (drop 1 l) words ids s) k)
+      (bitAnd ((2 ^ 64 - 1) - wordOf len (selectedAt (drop 1 l) ids s) k) (presenceChunk (getD l 0 noColumn) words len k))
+      ≡ wordOf len (skipOneAt l words ids s) k
   unfolding skipOneAt
   one-word =
-      ap (bitOr (wordOf len (presentAt All (drop 1 l) masks ids s) k))
-      (ap (bitAnd ((2 ^ 64 - 1) - wordOf len (selectedAt All (drop 1 l) ids s) k)) (word-presence len k (asColumn (getD l 0 noField)) (onlyMasks masks)) ∙ word-less len k _ _)
+      ap (bitOr (wordOf len (presentAt (drop 1 l) words ids s) k))
+      (ap (bitAnd ((2 ^ 64 - 1) - wordOf len (selectedAt (drop 1 l) ids s) k)) (word-presence len k (getD l 0 noColumn) words) ∙ word-less len k _ _)
       ∙ word-or len k _ _
 
   pub without-word : (n : ℕ) → n ≡ min 64 (len - 64 * k)
-      → bitOr (wordOf len (presentAt WithNulls l masks ids s) k) ((2 ^ 64 - 1) - wordOf len (selectedAt WithNulls l ids s) k) % 2 ^ n
-      ≡ wordOf len (skipWithoutAt l masks ids s) k
+      → bitOr (wordOf len (presentAt l words ids s) k) ((2 ^ 64 - 1) - wordOf len (selectedAt l ids s) k) % 2 ^ n
+      ≡ wordOf len (skipWithoutAt l words ids s) k
   unfolding skipWithoutAt
   without-word n en = word-rest len k _ _ n en
 
-  pub fully-word : wordOf len (presentAt NotFull l masks ids s) k ≡ wordOf len (skipFullyAt l masks ids s) k
+  pub fully-word : wordOf len (presentAt l words ids s) k ≡ wordOf len (skipFullyAt l words ids s) k
   unfolding skipFullyAt
   fully-word = refl

@@ -4,12 +4,13 @@ use mathlib.Core.Bool.{Bool, true, false, not}
 use mathlib.Core.List.{List}
 use Prim.Native.Nat.{ℕ, _*_, _≤_, _<_}
 use native.Mathlib.Omega.{arith}
-use borrow.Author.Tests.{le-leb, lt-leb}
-use lib.Dec.{eqb}
 use Rattle.bitmap.specs.Lists.{retable}
 use Rattle.bitmap.specs.Bits.{wordsFor, written}
 use Rattle.bitmap.proofs.Tables.{retable-ext}
-use Rattle.logical_nulls.specs.Mask.{presentOn, answerOn}
+use Rattle.null_strategy.specs.declared.Route.{Route}
+use Rattle.null_strategy.specs.Route.{presentOn}
+use Rattle.logical_nulls.specs.Mask.{numbersOf, answerOn}
+use Rattle.logical_nulls.specs.Ready.{noMask}
 use Rattle.logical_nulls.specs.Steps.{wordOf, wordsOf}
 use Rattle.logical_nulls.proofs.Selecting.{word-ext, word-none}
 
@@ -36,15 +37,10 @@ module _ (len : ℕ) where
 
 -- ---- the answer
 
-module _ (route nulls : ℕ) where
-  pub present-high : 3 ≤ route → not (eqb nulls 0) ≡ presentOn route nulls
-  present-high h = rw (le-leb 3 route h)
+module _ (route : Route) (nulls : ℕ) where
+  pub answer-yes : (b : Bool) → b ≡ presentOn route nulls → b ≡ true
+      → numbersOf (record { nulls = nulls; refusal = 0; route = route; present = true }) ≡ answerOn route nulls
+  answer-yes b e t = rw (sym e ∙ t)
 
-  pub present-low : route < 3 → not (eqb route 0) ≡ presentOn route nulls
-  present-low h = rw (lt-leb 3 route h)
-
-  pub answer-yes : (b : Bool) → b ≡ presentOn route nulls → b ≡ true → record { nulls = nulls; refusal = 0; route = route; present = b } ≡ answerOn route nulls
-  answer-yes b e t = rw (sym e, t)
-
-  pub answer-no : (b : Bool) → b ≡ presentOn route nulls → b ≡ false → record { nulls = 0; refusal = 0; route = route; present = b } ≡ answerOn route nulls
-  answer-no b e t = rw (sym e, t)
+  pub answer-no : (b : Bool) → b ≡ presentOn route nulls → b ≡ false → numbersOf (noMask 0 route) ≡ answerOn route nulls
+  answer-no b e t = rw (sym e ∙ t)

@@ -1,55 +1,68 @@
 -- The null mask and the named strategies: the answer, and the lent words at exit. A text in quotes is document 01's.
-use mathlib.Core.Bool.{Bool, true, false, cond, not, _&&_}
+use mathlib.Core.Bool.{Bool, true, false, cond, _&&_}
 use mathlib.Core.List.{List}
 use Prim.Native.Nat.{ℕ}
 use lib.Dec.{eqb, leb}
 use lib.ListN.{length}
 use Rattle.bitmap.specs.Bits.{count, wordsFor, written}
-use Rattle.union_array.specs.declared.Layout.{Layout}
+use Rattle.array_columns.specs.declared.Layout.{Layout}
 use Rattle.union_array.specs.declared.UnionArray.{UnionArray}
 use Rattle.union_array.specs.Types.{byLayout}
-use Rattle.union_array.specs.Buffers.{Buffers}
-use Rattle.union_array.specs.Refusal.{no, _then_, ifYes}
+use Rattle.array_columns.specs.Buffers.{Buffers}
+use Rattle.array_columns.specs.Refusal.{no, _then_, ifYes}
 use Rattle.union_array.specs.Slots.{slotNull}
 use Rattle.union_array.specs.Questions.{checked}
 use Rattle.null_strategy.specs.Setting.{settingNumber, settingOf}
-use Rattle.null_strategy.specs.Route.{withNulls, routeOf}
+use Rattle.null_strategy.specs.declared.Route.{Route}
+use Rattle.null_strategy.specs.declared.Route.the-variants.{Gather as routeGather, SkipOne as routeSkipOne, SkipWithoutNulls as routeSkipWithout, SkipFullyNull as routeSkipFully}
+use Rattle.null_strategy.specs.Route.{routeNumber, isAbsent, presentOn, withNulls, routeOf}
 pub use Rattle.logical_nulls.specs.declared.LogicalNulls.{LogicalNulls}
 pub use Rattle.logical_nulls.specs.declared.SparseStrategy.{SparseStrategy}
 pub use Rattle.logical_nulls.specs.declared.SparseStrategy.the-variants.{Gather, SkipOne, SkipWithoutNulls, SkipFullyNull}
 
+-- what is answered beside the words: "presence, null count (0 when absent) and route", and the refusal, in document 01's numbers
+pub record NullsAnswer : Type 0 where
+  pub nulls : ℕ
+  pub refusal : ℕ
+  pub route : ℕ
+  pub present : Bool
+
+-- the numbers of an answer of the code
+abbrev pub numbersOf : LogicalNulls → NullsAnswer
+numbersOf r = record { nulls = r .nulls; refusal = r .refusal; route = routeNumber (r .route); present = r .present }
+
+-- the answer on a route, for a mask of so many nulls
+abbrev pub answerOn : Route → ℕ → NullsAnswer
+answerOn route nulls = record { nulls = cond (presentOn route nulls) nulls 0; refusal = 0; route = routeNumber route; present = presentOn route nulls }
+
+-- a refused call answers "all other answer fields 0"
+abbrev pub refusedWith : ℕ → NullsAnswer
+refusedWith n = record { nulls = 0; refusal = n; route = 0; present = false }
+
 -- the answer, and the lent words at exit
 pub record Masked : Type 0 where
-  pub answer : LogicalNulls
+  pub answer : NullsAnswer
   pub out : List ℕ
 
 -- the two put together
+abbrev pub masked : NullsAnswer → List ℕ → Masked
+masked answer out = record { answer = answer; out = out }
+
+-- with an answer of the code
 abbrev pub withWords : LogicalNulls → List ℕ → Masked
-withWords answer out = record { answer = answer; out = out }
+withWords r out = masked (numbersOf r) out
 
 -- 13. Enough words lent for the mask (also asked on routes 0 to 2)?
 abbrev pub question13 : UnionArray → ℕ → Bool
 question13 a lent = leb (wordsFor (a .count)) lent
 
--- route 0: absent. Routes 1 and 2: present. Strategies: "the mask is absent if they hold no null"
-abbrev pub presentOn : ℕ → ℕ → Bool
-presentOn route nulls = cond (leb 3 route) (not (eqb nulls 0)) (not (eqb route 0))
-
--- "presence, null count (0 when absent) and route"
-abbrev pub answerOn : ℕ → ℕ → LogicalNulls
-answerOn route nulls = record { nulls = cond (presentOn route nulls) nulls 0; refusal = 0; route = route; present = presentOn route nulls }
-
 -- "Bit i is clear exactly if slot i's child slot is null." "Routes 1 to 6 write ..; Route 0 writes nothing."
-unfoldable pub maskedBy : UnionArray → Buffers → ℕ → List ℕ → Masked
-maskedBy a m route out = withWords (answerOn route (count (a .count) (slotNull a m))) (cond (eqb route 0) out (written (a .count) (slotNull a m) out))
-
--- a refused call answers "all other answer fields 0"
-abbrev pub refusedWith : ℕ → LogicalNulls
-refusedWith n = record { nulls = 0; refusal = n; route = 0; present = false }
+unfoldable pub maskedBy : UnionArray → Buffers → Route → List ℕ → Masked
+maskedBy a m route out = masked (answerOn route (count (a .count) (slotNull a m))) (cond (isAbsent route) out (written (a .count) (slotNull a m) out))
 
 -- and leaves "lent memory untouched"
 abbrev pub notMasked : ℕ → List ℕ → Masked
-notMasked n out = withWords (refusedWith n) out
+notMasked n out = masked (refusedWith n) out
 
 -- "the null mask 7, 8, 12, 13", after 1 to 6; 12 is the number of a refused setting
 abbrev pub nullsChecked : UnionArray → Buffers → ℕ → ℕ → ℕ
@@ -61,11 +74,11 @@ logicalNullsOf a m cost out =
     ifYes (nullsChecked a m cost (length out)) (maskedBy a m (routeOf a m cost) out) (notMasked (nullsChecked a m cost (length out)) out)
 
 -- "Gather .. (3); SkipOne .. (4); SkipWithoutNulls .. (5); SkipFullyNull .. (6)"
-abbrev pub strategyRoute : SparseStrategy → ℕ
-strategyRoute Gather = 3
-strategyRoute SkipOne = 4
-strategyRoute SkipWithoutNulls = 5
-strategyRoute SkipFullyNull = 6
+abbrev pub strategyRoute : SparseStrategy → Route
+strategyRoute Gather = routeGather
+strategyRoute SkipOne = routeSkipOne
+strategyRoute SkipWithoutNulls = routeSkipWithout
+strategyRoute SkipFullyNull = routeSkipFully
 
 -- "sparse unless Gather; M = N for SkipOne", by N and M
 abbrev pub applies : SparseStrategy → Layout → ℕ → ℕ → Bool

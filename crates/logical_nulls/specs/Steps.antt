@@ -3,28 +3,32 @@ use mathlib.Core.Path.{_≡_}
 use mathlib.Core.Bool.{Bool, true, false, cond, not, _&&_, _||_}
 use mathlib.Core.List.{List, [], _∷_, _++_, map}
 use Prim.Native.Nat.{ℕ, zero, suc, _+_, _-_, _*_, _%_, _^_, _≤_, _<_}
-use lib.Dec.{T, eqb, ltb}
+use lib.Dec.{T, ltb}
 use lib.IntN.{ℤ, pos, natAbs}
 use lib.ListN.{getD, take, drop, replicate, length}
 use lib.Bits.{bitAnd, bitOr}
 use lib.Signed.{nonNeg}
 use Rattle.bitmap.specs.Lists.{retable}
 use Rattle.bitmap.specs.Bits.{pack, wordsFor, sameId, selectionOf}
-use Rattle.union_array.specs.Buffers.{onlyMasks}
+use Rattle.array_columns.specs.declared.Column.{Column}
+use Rattle.union_array.specs.Types.{noColumn}
+use Rattle.array_columns.specs.Buffers.{Buffers}
 use Rattle.union_array.specs.Slots.{present}
-use Rattle.union_array.specs.Questions.{validId, maskIn}
-use Rattle.null_strategy.specs.declared.Field.{Field}
-use Rattle.null_strategy.specs.declared.Fields.{Fields}
-use Rattle.null_strategy.specs.Fields.{noField, noFields, asColumn}
+use Rattle.union_array.specs.Questions.{validId, presenceIn}
+use Rattle.null_strategy.specs.declared.Route.{Route}
+use Rattle.null_strategy.specs.declared.Route.the-variants.{Absent, OneField, AllNull, Gather, SkipOne, SkipWithoutNulls, SkipFullyNull}
+use Rattle.null_strategy.specs.declared.State.{State}
+use Rattle.null_strategy.specs.declared.FieldState.{FieldState}
+use Rattle.null_strategy.specs.Fields.{hasNulls, onlyNulls, stateOf}
 pub use Rattle.logical_nulls.specs.declared.Taken.{Taken}
 pub use Rattle.logical_nulls.specs.declared.Taken.the-variants.{All, WithNulls, NotFull}
 pub use Rattle.logical_nulls.specs.declared.TakenFields.{TakenFields}
 pub use Rattle.logical_nulls.specs.declared.Selection.{Selection}
 
--- some field passes
-unfoldable pub any : (Field → Bool) → List Field → Bool
+-- some column passes
+unfoldable pub any : (Column → Bool) → List Column → Bool
 any p [] = false
-any p (f ∷ fs) = p f || any p fs
+any p (c ∷ cs) = p c || any p cs
 
 -- word k of len bits, whose bit i is f i; bits past len are 0
 unfoldable pub wordOf : ℕ → (ℕ → Bool) → ℕ → ℕ
@@ -34,55 +38,59 @@ wordOf len f k = pack 64 (λ j. ltb (64 * k + j) len && f (64 * k + j))
 unfoldable pub wordsOf : ℕ → (ℕ → Bool) → List ℕ → List ℕ
 wordsOf len f out = retable (wordsFor len) (wordOf len f) out
 
--- slot p of a field's child is present
-abbrev pub fieldPresent : List ℕ → ℕ → Field → Bool
-fieldPresent masks p f = present (asColumn f) (onlyMasks masks) p
-
--- the fields that a step takes up, by their state
-abbrev pub takes : Taken → ℕ → Bool
+-- a column of this state is taken up
+abbrev pub takes : Taken → State → Bool
 takes All s = true
-takes WithNulls s = ltb 0 s
-takes NotFull s = ltb s 2
+takes WithNulls s = hasNulls s
+takes NotFull s = not (onlyNulls s)
+
+-- the columns that are taken up
+unfoldable pub takenOf : Taken → Buffers → List Column → List Column
+takenOf over words [] = []
+takenOf over words (c ∷ cs) = cond (takes over (stateOf words c)) (c ∷ takenOf over words cs) (takenOf over words cs)
+
+-- what the step of a route takes up: SkipOne, and one field alone, all columns
+abbrev pub overOf : Route → Taken
+overOf Absent = All
+overOf OneField = All
+overOf AllNull = All
+overOf Gather = All
+overOf SkipOne = All
+overOf SkipWithoutNulls = WithNulls
+overOf SkipFullyNull = NotFull
 
 -- the type id of slot i
 abbrev pub idAt : List ℤ → ℕ → ℕ → ℤ
 idAt ids start i = getD ids (start + i) (pos 0)
 
--- a field that is taken up and has the id t
-abbrev pub chosen : Taken → ℤ → Field → Bool
-chosen over t f = takes over (f .state) && sameId t (f .id)
+-- slot i is one of these columns'
+abbrev pub selectedAt : List Column → List ℤ → ℕ → ℕ → Bool
+selectedAt cs ids start i = any (λ c. sameId (idAt ids start i) (c .id)) cs
 
--- slot i is a taken field's
-abbrev pub selectedAt : Taken → List Field → List ℤ → ℕ → ℕ → Bool
-selectedAt over fs ids start i = any (chosen over (idAt ids start i)) fs
+-- slot i is one of these columns', and present
+abbrev pub presentAt : List Column → Buffers → List ℤ → ℕ → ℕ → Bool
+presentAt cs words ids start i = any (λ c. sameId (idAt ids start i) (c .id) && present c words i) cs
 
--- slot i is a taken field's, and present
-abbrev pub presentAt : Taken → List Field → List ℕ → List ℤ → ℕ → ℕ → Bool
-presentAt over fs masks ids start i = any (λ f. chosen over (idAt ids start i) f && fieldPresent masks i f) fs
+-- SkipOne: of another column than the first and present, or of no other and in the first present
+unfoldable pub skipOneAt : List Column → Buffers → List ℤ → ℕ → ℕ → Bool
+skipOneAt cs words ids start i =
+    presentAt (drop 1 cs) words ids start i || (not (selectedAt (drop 1 cs) ids start i) && present (getD cs 0 noColumn) words i)
 
--- SkipOne: of another field and present, or of no other field and the first child's bit
-unfoldable pub skipOneAt : List Field → List ℕ → List ℤ → ℕ → ℕ → Bool
-skipOneAt fs masks ids start i =
-    presentAt All (drop 1 fs) masks ids start i || (not (selectedAt All (drop 1 fs) ids start i) && fieldPresent masks i (getD fs 0 noField))
+-- SkipWithoutNulls, of the columns with a null: of one and present, or of none
+unfoldable pub skipWithoutAt : List Column → Buffers → List ℤ → ℕ → ℕ → Bool
+skipWithoutAt cs words ids start i = presentAt cs words ids start i || not (selectedAt cs ids start i)
 
--- SkipWithoutNulls: of a field with a null and present, or of no field with a null
-unfoldable pub skipWithoutAt : List Field → List ℕ → List ℤ → ℕ → ℕ → Bool
-skipWithoutAt fs masks ids start i = presentAt WithNulls fs masks ids start i || not (selectedAt WithNulls fs ids start i)
+-- SkipFullyNull, of the columns that are not fully null: of one, and present
+unfoldable pub skipFullyAt : List Column → Buffers → List ℤ → ℕ → ℕ → Bool
+skipFullyAt cs words ids start i = presentAt cs words ids start i
 
--- SkipFullyNull: of a field that is not fully null, and present
-unfoldable pub skipFullyAt : List Field → List ℕ → List ℤ → ℕ → ℕ → Bool
-skipFullyAt fs masks ids start i = presentAt NotFull fs masks ids start i
+-- the step by what it takes up
+abbrev pub stepAt : Taken → List Column → Buffers → List ℤ → ℕ → ℕ → Bool
+stepAt All cs words ids start i = skipOneAt cs words ids start i
+stepAt WithNulls cs words ids start i = skipWithoutAt cs words ids start i
+stepAt NotFull cs words ids start i = skipFullyAt cs words ids start i
 
--- the step of a route: SkipWithoutNulls 5, SkipFullyNull 6; SkipOne 4, and one field alone
-unfoldable pub stepAt : ℕ → List Field → List ℕ → List ℤ → ℕ → ℕ → Bool
-stepAt route fs masks ids start =
-    cond (eqb route 5) (skipWithoutAt fs masks ids start) (cond (eqb route 6) (skipFullyAt fs masks ids start) (skipOneAt fs masks ids start))
-
--- ---- the same by words, from the ids of a run of n slots and the presence chunks of the fields that are taken up
-
--- what the strategy of a route takes up
-abbrev pub overOf : ℕ → Taken
-overOf route = cond (eqb route 5) WithNulls (cond (eqb route 6) NotFull All)
+-- ---- the same by words, from the ids of a run of n slots and the presence chunks of the columns that are taken up
 
 -- f 0, .., f (n - 1) joined by or
 unfoldable pub orOf : ℕ → (ℕ → ℕ) → ℕ
@@ -120,36 +128,44 @@ skipWithoutWord fields chunks count ids s n =
 unfoldable pub skipFullyWord : List ℕ → List ℕ → ℕ → List ℤ → ℕ → ℕ → ℕ
 skipFullyWord fields chunks count ids s n = selectedFrom fields chunks 0 count ids s n .present
 
--- the word by the step of a route
-unfoldable pub stepWord : ℕ → List ℕ → List ℕ → ℕ → List ℤ → ℕ → ℕ → ℕ
-stepWord route fields chunks count ids s n =
-    cond (eqb route 5) (skipWithoutWord fields chunks count ids s n)
-    (cond (eqb route 6) (skipFullyWord fields chunks count ids s n) (skipOneWord fields chunks count ids s n))
+-- the word by the step
+abbrev pub stepWord : Taken → List ℕ → List ℕ → ℕ → List ℤ → ℕ → ℕ → ℕ
+stepWord All fields chunks count ids s n = skipOneWord fields chunks count ids s n
+stepWord WithNulls fields chunks count ids s n = skipWithoutWord fields chunks count ids s n
+stepWord NotFull fields chunks count ids s n = skipFullyWord fields chunks count ids s n
 
 -- ---- what the functions need and give
 
 -- 128 zeros
-unfoldable pub noIds : List ℕ
-noIds = replicate 128 0
+unfoldable pub zeros : List ℕ
+zeros = replicate 128 0
 
--- the fields in use of an answer of `taken_fields`
-abbrev pub inTaken : TakenFields → List Field
-inTaken t = take (t .count) (t .list)
+-- the columns at some places of a list
+abbrev pub columnsAt : List Column → List ℕ → List Column
+columnsAt cs places = map (λ p. getD cs p noColumn) places
 
--- the fields of a list that are taken up
-unfoldable pub takenOf : Taken → List Field → List Field
-takenOf over [] = []
-takenOf over (f ∷ fs) = cond (takes over (f .state)) (f ∷ takenOf over fs) (takenOf over fs)
+-- the columns of an answer of `taken_fields`
+abbrev pub inTaken : List Column → TakenFields → List Column
+inTaken cs t = take (t .count) (columnsAt cs (t .places))
 
--- they and their ids, and after them the zeros that the arrays were made with
-unfoldable pub takenFieldsOf : Taken → List Field → TakenFields
-takenFieldsOf over fs =
-    let l = takenOf over fs in
-    record { list = l ++ drop (length l) noFields; ids = map (λ f. natAbs (f .id)) l ++ drop (length l) noIds; count = length l }
+-- the places, counted from k on, of the states that are taken up
+unfoldable pub takenPlaces : Taken → ℕ → List FieldState → List ℕ
+takenPlaces over k [] = []
+takenPlaces over k (f ∷ fs) = cond (takes over (f .state)) (k ∷ takenPlaces over (suc k) fs) (takenPlaces over (suc k) fs)
 
--- the first `count` fields have these ids
-abbrev pub HaveIds : List Field → List ℕ → ℕ → Type 0
-HaveIds fs ids count = (q : ℕ) → q < count → (getD fs q noField .id ≡ pos (getD ids q 0)) × (getD ids q 0 < 128)
+-- the id of the column at a place
+abbrev pub idIn : List Column → ℕ → ℕ
+idIn cs p = natAbs (getD cs p noColumn .id)
+
+-- those places and the ids there, and after them the zeros that the arrays were made with
+unfoldable pub takenFieldsOf : Taken → List Column → List FieldState → TakenFields
+takenFieldsOf over cs fs =
+    let l = takenPlaces over 0 fs in
+    record { places = l ++ drop (length l) zeros; ids = map (idIn cs) l ++ drop (length l) zeros; count = length l }
+
+-- the first `count` columns have these ids
+abbrev pub HaveIds : List Column → List ℕ → ℕ → Type 0
+HaveIds cs ids count = (q : ℕ) → q < count → (getD cs q noColumn .id ≡ pos (getD ids q 0)) × (getD ids q 0 < 128)
 
 -- n type ids are lent, of which none is below 0
 pub record LentIds (ids : List ℤ) (start n : ℕ) : Type 0 where
@@ -163,26 +179,29 @@ pub record RunReady (fields : List ℕ) (count : ℕ) (ids : List ℤ) (start n 
   pub few : count ≤ 128
   pub named : (q : ℕ) → q < count → getD fields q 0 < 128
 
--- a child has len slots, whose mask bits are lent
-abbrev pub Held : List ℕ → ℕ → Field → Type 0
-Held masks len f = (maskIn (asColumn f) (length masks) ≡ true) × (len ≤ f .slots)
+-- a child has len slots, whose presence can be read
+abbrev pub Held : Buffers → ℕ → Column → Type 0
+Held words len c = (presenceIn words c ≡ true) × (len ≤ c .slots)
 
--- what the steps of a route need of the fields that it takes up
-pub record TakenReady (route : ℕ) (t : TakenFields) (masks : List ℕ) (ids : List ℤ) (start len : ℕ) : Type 0 where
-  pub slots : LentIds ids start len
+-- each column's id is one of 0 to 127
+abbrev pub ValidIds : List Column → ℕ → Type 0
+ValidIds cs count = (q : ℕ) → q < count → validId (getD cs q noColumn .id) ≡ true
+
+-- what is taken up lies in the column list, and has these ids
+pub record TakenNamed (cs : List Column) (t : TakenFields) : Type 0 where
   pub few : t .count ≤ 128
-  pub some : overOf route ≡ All → 1 ≤ t .count
-  pub fits : (q : ℕ) → q < t .count → takes (overOf route) (getD (t .list) q noField .state) ≡ true
-  pub named : HaveIds (t .list) (t .ids) (t .count)
-  pub held : (q : ℕ) → q < t .count → Held masks len (getD (t .list) q noField)
+  pub long : t .count ≤ length (t .places)
+  pub placed : (q : ℕ) → q < t .count → getD (t .places) q 0 < 128
+  pub named : HaveIds (columnsAt cs (t .places)) (t .ids) (t .count)
 
--- each field's id is one of 0 to 127
-abbrev pub ValidIds : Fields → Type 0
-ValidIds fs = (q : ℕ) → q < fs .count → validId (getD (fs .list) q noField .id) ≡ true
-
--- what they need of all fields
-pub record FieldsReady (fs : Fields) (masks : List ℕ) (ids : List ℤ) (start len : ℕ) : Type 0 where
+-- what the steps need of it
+pub record TakenReady (over : Taken) (cs : List Column) (t : TakenFields) (words : Buffers) (ids : List ℤ) (start len : ℕ) : Type 0 where
+  pub taken : TakenNamed cs t
   pub slots : LentIds ids start len
-  pub few : fs .count ≤ 128
-  pub valid : ValidIds fs
-  pub held : (q : ℕ) → q < fs .count → Held masks len (getD (fs .list) q noField)
+  pub some : over ≡ All → 1 ≤ t .count
+  pub held : (q : ℕ) → q < t .count → Held words len (getD (columnsAt cs (t .places)) q noColumn)
+
+-- what they need of all columns
+pub record FieldsReady (cs : List Column) (count : ℕ) (words : Buffers) (ids : List ℤ) (start len : ℕ) : Type 0 where
+  pub slots : LentIds ids start len
+  pub held : (q : ℕ) → q < count → Held words len (getD cs q noColumn)

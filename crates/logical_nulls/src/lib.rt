@@ -1,4 +1,5 @@
 // The null mask of a union array: its strategies, its words.
+mod answers;
 pub mod mask;
 pub mod named;
 mod steps;
@@ -6,8 +7,8 @@ mod table;
 mod taking;
 mod words;
 
-use null_strategy::Field;
 pub use null_strategy::Processor;
+pub use null_strategy::Route;
 pub use null_strategy::Setting;
 
 // A strategy for the words of a mask; all but Gather are for sparse unions.
@@ -22,7 +23,7 @@ pub enum SparseStrategy {
 pub struct LogicalNulls {
     pub nulls: usize,
     pub refusal: u8,
-    pub route: u8,
+    pub route: Route,
     pub present: bool,
 }
 
@@ -33,9 +34,9 @@ pub(crate) enum Taken {
     NotFull,
 }
 
-// Those fields, in list order, and their ids: the first `count` entries of each.
+// The places in the column list of those fields, in order, and their ids: the first `count` entries of each.
 pub(crate) struct TakenFields {
-    list: [Field; 128],
+    places: [u8; 128],
     ids: [u8; 128],
     count: usize,
 }

@@ -1,40 +1,16 @@
 // The null mask of a union array.
 ghost use mathlib.Core.Path.{_≡_};
-ghost use Rattle.union_array.specs.Buffers.{buffersOf};
-ghost use Rattle.logical_nulls.specs.Mask.{withWords, refusedWith, logicalNullsOf};
-ghost use Rattle.logical_nulls.specs.Ready.{absent};
+ghost use Rattle.array_columns.specs.Buffers.{buffersOf};
+ghost use Rattle.logical_nulls.specs.Mask.{withWords, logicalNullsOf};
 use crate::LogicalNulls;
+use crate::answers;
 use crate::words;
 use null_strategy::Processor;
 use null_strategy::Setting;
-use null_strategy::route;
+use null_strategy::routes;
 use null_strategy::states;
 use union_array::UnionArray;
 use union_array::check;
-
-// What a refused call answers.
-pub(crate) fn refused(n: u8) -> LogicalNulls
-    ensures { λ r. ⌜ r ≡ refusedWith n ⌝ }
-{
-    LogicalNulls {
-        nulls: 0,
-        refusal: n,
-        route: 0,
-        present: false,
-    }
-}
-
-// What is answered on route 0.
-fn absent() -> LogicalNulls
-    ensures { λ r. ⌜ r ≡ absent ⌝ }
-{
-    LogicalNulls {
-        nulls: 0,
-        refusal: 0,
-        route: 0,
-        present: false,
-    }
-}
 
 // The null mask at a gather cost: its answer, and its words in `out`. Asks 1 to 8, 12 and 13.
 pub fn logical_nulls(
@@ -51,20 +27,19 @@ pub fn logical_nulls(
 {
     let no = check::check(array, type_ids, offsets, values, masks, names);
     if no != 0 {
-        return refused(no);
+        return answers::refused(no);
     }
     let made = Processor::new(cost);
     let Setting::Of(processor) = made else {
-        return refused(12);
+        return answers::refused(12);
     };
     if out.len() < bitmap::words_for(array.count) {
-        return refused(13);
+        return answers::refused(13);
     }
-    let fs = states::fields_of(array, masks);
-    let layout = array.layout;
-    let route = route::route_for(layout, fs, processor.cost());
-    if route == 0 {
-        return absent();
+    let fs = states::fields_of(array, values, masks);
+    let route = routes::route_for(array, fs, processor.cost());
+    if route.is_absent() {
+        return answers::answer_on(route, 0);
     }
-    words::run_route(array, fs, route, masks, type_ids, offsets, out)
+    words::run_route(array, fs, route, values, masks, type_ids, offsets, out)
 }

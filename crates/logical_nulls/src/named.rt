@@ -2,14 +2,15 @@
 ghost use mathlib.Core.Path.{_≡_};
 ghost use mathlib.Core.Bool.{true, false};
 ghost use Rattle.union_array.specs.Types.{byLayout};
-ghost use Rattle.union_array.specs.Buffers.{buffersOf};
+ghost use Rattle.array_columns.specs.Buffers.{buffersOf};
 ghost use Rattle.logical_nulls.specs.Mask.{withWords, strategyRoute, applies, mayRun, strategyOf};
 use crate::LogicalNulls;
 use crate::SparseStrategy;
-use crate::mask;
+use crate::answers;
 use crate::words;
+use array_columns::Layout;
+use null_strategy::Route;
 use null_strategy::states;
-use union_array::Layout;
 use union_array::UnionArray;
 use union_array::check;
 
@@ -46,14 +47,14 @@ fn may_run(strategy: SparseStrategy, layout: Layout, n: usize, some: usize) -> b
 }
 
 // The route of a strategy.
-fn route_of(strategy: SparseStrategy) -> u8
+fn route_of(strategy: SparseStrategy) -> Route
     ensures { λ r. ⌜ r ≡ strategyRoute strategy ⌝ }
 {
     match strategy {
-        SparseStrategy::Gather => 3,
-        SparseStrategy::SkipOne => 4,
-        SparseStrategy::SkipWithoutNulls => 5,
-        SparseStrategy::SkipFullyNull => 6,
+        SparseStrategy::Gather => Route::Gather,
+        SparseStrategy::SkipOne => Route::SkipOne,
+        SparseStrategy::SkipWithoutNulls => Route::SkipWithoutNulls,
+        SparseStrategy::SkipFullyNull => Route::SkipFullyNull,
     }
 }
 
@@ -72,16 +73,16 @@ pub fn run_strategy(
 {
     let no = check::check(array, type_ids, offsets, values, masks, names);
     if no != 0 {
-        return mask::refused(no);
+        return answers::refused(no);
     }
-    let fs = states::fields_of(array, masks);
+    let fs = states::fields_of(array, values, masks);
     let layout = array.layout;
     if !may_run(strategy, layout, fs.count, fs.some) {
-        return mask::refused(14);
+        return answers::refused(14);
     }
     if out.len() < bitmap::words_for(array.count) {
-        return mask::refused(13);
+        return answers::refused(13);
     }
     let route = route_of(strategy);
-    words::run_route(array, fs, route, masks, type_ids, offsets, out)
+    words::run_route(array, fs, route, values, masks, type_ids, offsets, out)
 }

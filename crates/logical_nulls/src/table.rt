@@ -1,60 +1,43 @@
 // Gather: a table with one entry to each type id, read as an unsigned byte, and a bit looked up for each slot.
 ghost use mathlib.Core.Path.{_≡_};
-ghost use Prim.Native.Nat.{_+_, _^_, _<_, _≤_};
+ghost use Prim.Native.Nat.{_^_, _<_, _≤_};
 ghost use lib.ListN.{length};
 ghost use Rattle.bitmap.specs.Bits.{wordsFor};
-ghost use Rattle.null_strategy.specs.Fields.{inList};
-ghost use Rattle.logical_nulls.specs.Steps.{wordsOf, ValidIds};
-ghost use Rattle.logical_nulls.specs.Table.{tableOf, childSlot, gatheredAt, Reach, Gathers};
-use null_strategy::Field;
-use null_strategy::Fields;
-use null_strategy::states;
-use union_array::Layout;
-use union_array::presence;
+ghost use Rattle.array_columns.specs.Buffers.{onlyWords};
+ghost use Rattle.logical_nulls.specs.Steps.{inTaken, wordsOf, TakenNamed};
+ghost use Rattle.logical_nulls.specs.Table.{tableOf, childSlot, gatheredAt, Gathers};
+use crate::TakenFields;
+use array_columns::Column;
+use array_columns::Layout;
+use array_columns::presence;
+use array_columns::questions;
+use array_columns::slots::child_slot;
 
-// The fields with a null, each at its id. Any other entry has no null, and no slot is past it.
-pub(crate) fn fill(fs: Fields) -> [Field; 256]
-    requires { ⌜ fs .count ≤ 128 ⌝ }
-    requires { ⌜ ValidIds fs ⌝ }
-    ensures { λ r. ⌜ r ≡ tableOf (inList fs) ⌝ }
+// The columns with a null, each at its id. Any other entry has no null, and no slot is past it.
+pub(crate) fn fill(columns: [Column; 128], t: TakenFields) -> [Column; 256]
+    requires { ⌜ TakenNamed columns t ⌝ }
+    ensures { λ r. ⌜ r ≡ tableOf (inTaken columns t) ⌝ }
 {
-    let without = Field {
-        mask: 0,
-        slots: 0xffff_ffff,
-        bit: 0,
-        id: 0,
-        state: 0,
-        masked: false,
-    };
+    let mut without = questions::no_column();
+    without.slots = 0xffff_ffff;
     let mut table = [without; 256];
-    let used = fs.count;
+    let used = t.count;
     let mut q: usize = 0;
     while q < used {
-        let f = fs.list[q];
-        if 0 < f.state {
-            let at = f.id as usize;
-            table[at] = f;
-        }
+        let place = t.places[q] as usize;
+        let at = t.ids[q] as usize;
+        let c = columns[place];
+        table[at] = c;
         q += 1;
     }
     table
 }
 
-// The slot of its child that slot i is.
-fn child_slot(layout: Layout, offsets: &[i32], at: usize, i: usize) -> usize
-    requires { ⌜ Reach layout (now offsets) at (i + 1) ⌝ }
-    ensures { λ r. ⌜ r ≡ childSlot layout (now (offsets .entry)) at i ⌝ }
-{
-    match layout {
-        Layout::Sparse => i,
-        Layout::Dense => offsets[at + i] as usize,
-    }
-}
-
 // The mask by gathering: each slot's bit is looked up by itself. Later words keep what they have. Both loops stand here, since a call
 // for each word would copy the table.
 pub(crate) fn write_gathered(
-    table: [Field; 256],
+    table: [Column; 256],
+    values: &[u64],
     masks: &[u64],
     ids: &[i8],
     start: usize,
@@ -65,8 +48,8 @@ pub(crate) fn write_gathered(
     out: &mut [u64],
 )
     requires { ⌜ (len < 2 ^ 63) × (wordsFor len ≤ length (now out)) ⌝ }
-    requires { ⌜ Gathers table (now masks) (now ids) start layout (now offsets) at len ⌝ }
-    ensures { λ _. ⌜ now (out .exit) ≡ wordsOf len (gatheredAt table (now (masks .entry)) (now (ids .entry)) start (childSlot layout (now (offsets .entry)) at)) (now (out .entry)) ⌝ }
+    requires { ⌜ Gathers table (onlyWords (now values) (now masks)) (now ids) start layout (now offsets) at len ⌝ }
+    ensures { λ _. ⌜ now (out .exit) ≡ wordsOf len (gatheredAt table (onlyWords (now (values .entry)) (now (masks .entry))) (now (ids .entry)) start (childSlot layout (now (offsets .entry)) at)) (now (out .entry)) ⌝ }
 {
     let words = bitmap::words_for(len);
     let mut k: usize = 0;
@@ -80,7 +63,7 @@ pub(crate) fn write_gathered(
             let t = ids[start + i] as usize;
             let e = table[t];
             let p = child_slot(layout, offsets, at, i);
-            if presence::is_present(states::as_column(e), masks, p) {
+            if presence::is_present(e, values, masks, p) {
                 x |= 1u64 << j;
             }
             j += 1;

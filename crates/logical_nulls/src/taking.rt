@@ -5,60 +5,59 @@ ghost use Rattle.null_strategy.specs.Fields.{inList};
 ghost use Rattle.logical_nulls.specs.Steps.{takes, overOf, takenFieldsOf, ValidIds};
 use crate::Taken;
 use crate::TakenFields;
-use null_strategy::Field;
+use array_columns::Column;
 use null_strategy::Fields;
+use null_strategy::Route;
+use null_strategy::State;
+use null_strategy::states;
 
-// What the strategy of a route takes up.
-pub(crate) fn over_of(route: u8) -> Taken
+// What the step of a route takes up.
+pub(crate) fn over_of(route: Route) -> Taken
     ensures { λ r. ⌜ r ≡ overOf route ⌝ }
 {
-    if route == 5 {
-        return Taken::WithNulls;
+    match route {
+        Route::Absent => Taken::All,
+        Route::OneField => Taken::All,
+        Route::AllNull => Taken::All,
+        Route::Gather => Taken::All,
+        Route::SkipOne => Taken::All,
+        Route::SkipWithoutNulls => Taken::WithNulls,
+        Route::SkipFullyNull => Taken::NotFull,
     }
-    if route == 6 {
-        return Taken::NotFull;
-    }
-    Taken::All
 }
 
 // Whether a field of this state is taken up.
-fn takes(over: Taken, state: u8) -> bool
+fn takes(over: Taken, state: State) -> bool
     ensures { λ r. ⌜ r ≡ takes over state ⌝ }
 {
     match over {
         Taken::All => true,
-        Taken::WithNulls => 0 < state,
-        Taken::NotFull => state < 2,
+        Taken::WithNulls => states::has_null(state),
+        Taken::NotFull => !states::is_full(state),
     }
 }
 
-// The fields that are taken up, and zeros after them.
-pub(crate) fn taken_fields(fs: Fields, over: Taken) -> TakenFields
+// The places and ids of the fields that are taken up, and zeros after them.
+pub(crate) fn taken_fields(columns: [Column; 128], fs: Fields, over: Taken) -> TakenFields
     requires { ⌜ fs .count ≤ 128 ⌝ }
-    requires { ⌜ ValidIds fs ⌝ }
-    ensures { λ r. ⌜ r ≡ takenFieldsOf over (inList fs) ⌝ }
+    requires { ⌜ ValidIds columns (fs .count) ⌝ }
+    ensures { λ r. ⌜ r ≡ takenFieldsOf over columns (inList fs) ⌝ }
 {
-    let none = Field {
-        mask: 0,
-        slots: 0,
-        bit: 0,
-        id: 0,
-        state: 0,
-        masked: false,
-    };
-    let mut list = [none; 128];
+    let mut places = [0u8; 128];
     let mut ids = [0u8; 128];
     let mut count: usize = 0;
     let used = fs.count;
     let mut q: usize = 0;
     while q < used {
-        let f = fs.list[q];
-        if takes(over, f.state) {
-            list[count] = f;
-            ids[count] = f.id as u8;
+        let f = fs.states[q];
+        let state = f.state;
+        if takes(over, state) {
+            let c = columns[q];
+            places[count] = q as u8;
+            ids[count] = c.id as u8;
             count += 1;
         }
         q += 1;
     }
-    TakenFields { list, ids, count }
+    TakenFields { places, ids, count }
 }

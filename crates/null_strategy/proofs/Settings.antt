@@ -5,7 +5,7 @@ use Prim.Native.Nat.{ℕ}
 use native.Mathlib.Omega.{arith}
 use borrow.Author.Tests.{eq-eqb, ne-eqb}
 use lib.Dec.{eqb}
-use Rattle.union_array.specs.Refusal.{no}
+use Rattle.array_columns.specs.Refusal.{no}
 use Rattle.null_strategy.specs.declared.Setting.the-variants.{Of, Refused}
 use Rattle.null_strategy.specs.Setting.{Processor, Setting, SettingAnswer, question12, settingNumber, settingCost, settingTold, settingAnswer, settingOf}
 

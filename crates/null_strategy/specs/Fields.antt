@@ -1,56 +1,61 @@
--- What the strategies read of an array's fields, as the code holds it.
+-- The states of an array's fields, as the code holds them.
 use mathlib.Core.Path.{_≡_}
-use mathlib.Core.Bool.{false, cond}
+use mathlib.Core.Bool.{Bool, true, false, cond}
 use mathlib.Core.List.{List}
 use Prim.Native.Nat.{ℕ}
-use lib.IntN.{pos}
 use lib.ListN.{getD, take, replicate}
 use Rattle.bitmap.specs.Lists.{retable}
-use Rattle.union_array.specs.declared.Kind.the-variants.{Int8}
-use Rattle.union_array.specs.declared.Layout.{Layout}
-use Rattle.union_array.specs.declared.Column.{Column}
+use Rattle.array_columns.specs.declared.Column.{Column}
 use Rattle.union_array.specs.declared.UnionArray.{UnionArray}
 use Rattle.union_array.specs.Types.{noColumn}
-use Rattle.union_array.specs.Buffers.{Buffers}
+use Rattle.array_columns.specs.Buffers.{Buffers}
 use Rattle.null_strategy.specs.Route.{hasNull, fullyNull, withNulls, fullyNulls}
-pub use Rattle.null_strategy.specs.declared.Field.{Field}
+pub use Rattle.null_strategy.specs.declared.State.{State}
+pub use Rattle.null_strategy.specs.declared.State.the-variants.{NoNull, SomeNull, FullyNull}
+pub use Rattle.null_strategy.specs.declared.FieldState.{FieldState}
 pub use Rattle.null_strategy.specs.declared.Fields.{Fields}
 
--- a field of zeros
-abbrev pub noField : Field
-noField = record { mask = 0; slots = 0; bit = 0; id = pos 0; state = 0; masked = false }
+-- a child of this state has a null
+abbrev pub hasNulls : State → Bool
+hasNulls NoNull = false
+hasNulls SomeNull = true
+hasNulls FullyNull = true
 
--- 0 without a null, 2 fully null, else 1
-unfoldable pub stateOf : Buffers → Column → ℕ
-stateOf m c = cond (hasNull m c) (cond (fullyNull m c) 2 1) 0
+-- and is fully null
+abbrev pub onlyNulls : State → Bool
+onlyNulls NoNull = false
+onlyNulls SomeNull = false
+onlyNulls FullyNull = true
 
--- what is read of a column
-abbrev pub fieldOf : Buffers → Column → Field
-fieldOf m c = record { mask = c .mask; slots = c .slots; bit = c .bit; id = c .id; state = stateOf m c; masked = c .masked }
+-- the state of a column's child
+unfoldable pub stateOf : Buffers → Column → State
+stateOf m c = cond (hasNull m c) (cond (fullyNull m c) FullyNull SomeNull) NoNull
 
--- the column of a field, as far as its mask goes
-abbrev pub asColumn : Field → Column
-asColumn f = record { values = 0; mask = f .mask; name = 0; slots = f .slots; bit = f .bit; size = 0; id = f .id; kind = Int8; masked = f .masked }
+-- as an entry
+abbrev pub fieldState : Buffers → Column → FieldState
+fieldState m c = record { state = stateOf m c }
 
--- field q of a column list
-abbrev pub fieldAt : Buffers → List Column → ℕ → Field
-fieldAt m cs q = fieldOf m (getD cs q noColumn)
+-- the entry of a child without a null
+abbrev pub noState : FieldState
+noState = record { state = NoNull }
 
--- 128 of zeros
-unfoldable pub noFields : List Field
-noFields = replicate 128 noField
+-- that of column q of a list
+abbrev pub stateAt : Buffers → List Column → ℕ → FieldState
+stateAt m cs q = fieldState m (getD cs q noColumn)
 
--- the fields of an array and after them zeros, N, M and F
+-- 128 of them
+unfoldable pub noStates : List FieldState
+noStates = replicate 128 noState
+
+-- the states of an array's fields, N, M and F
 abbrev pub fieldsOf : UnionArray → Buffers → Fields
-fieldsOf a m = record { list = retable (a .fields) (fieldAt m (a .columns)) noFields; count = a .fields; some = withNulls a m; full = fullyNulls a m }
+fieldsOf a m = record { states = retable (a .fields) (stateAt m (a .columns)) noStates; count = a .fields; some = withNulls a m; full = fullyNulls a m }
 
--- the fields in use
-abbrev pub inList : Fields → List Field
-inList fs = take (fs .count) (fs .list)
+-- the states in use
+abbrev pub inList : Fields → List FieldState
+inList fs = take (fs .count) (fs .states)
 
--- the fields are those of an array of this layout
-pub record Described (layout : Layout) (fs : Fields) : Type 0 where
-  pub array : UnionArray
+-- the states are those of an array's fields
+pub record Described (a : UnionArray) (fs : Fields) : Type 0 where
   pub buffers : Buffers
-  pub laidOut : layout ≡ array .layout
-  pub fields : fs ≡ fieldsOf array buffers
+  pub fields : fs ≡ fieldsOf a buffers

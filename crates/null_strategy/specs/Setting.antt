@@ -2,7 +2,7 @@
 use mathlib.Core.Bool.{Bool, cond, _||_}
 use Prim.Native.Nat.{ℕ}
 use lib.Dec.{eqb}
-use Rattle.union_array.specs.Refusal.{no}
+use Rattle.array_columns.specs.Refusal.{no}
 pub use Rattle.null_strategy.specs.declared.Processor.{Processor}
 pub use Rattle.null_strategy.specs.declared.Setting.{Setting}
 use Rattle.null_strategy.specs.declared.Setting.the-variants.{Of, Refused}

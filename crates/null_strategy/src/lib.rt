@@ -1,6 +1,6 @@
 // The route of the null mask: the processor setting, the fields' states, the strategy of least cost.
 mod cost;
-pub mod route;
+pub mod routes;
 pub mod states;
 
 // The processor setting: what gathering costs, against one selection mask a chunk.
@@ -14,26 +14,38 @@ pub enum Setting {
     Refused,
 }
 
+// The routes of the null mask; the last four are strategies.
+pub enum Route {
+    Absent,
+    OneField,
+    AllNull,
+    Gather,
+    SkipOne,
+    SkipWithoutNulls,
+    SkipFullyNull,
+}
+
 // A route and its cost.
 pub struct Choice {
     pub cost: usize,
-    pub route: u8,
+    pub route: Route,
 }
 
-// What a strategy reads of a field: its id, its child's mask, and in `state` 0 for a child without a null, 2 for a fully null
-// one, 1 for any other.
-pub struct Field {
-    pub mask: usize,
-    pub slots: u32,
-    pub bit: u8,
-    pub id: i8,
-    pub state: u8,
-    pub masked: bool,
+// The nulls of a child: none, some, or all of its slots.
+pub enum State {
+    NoNull,
+    SomeNull,
+    FullyNull,
 }
 
-// The fields of an array, in list order: the first `count` entries. `some` have a null, `full` are fully null.
+// A field's state.
+pub struct FieldState {
+    pub state: State,
+}
+
+// The states of an array's fields, in list order: the first `count` entries. `some` fields have a null, `full` are fully null.
 pub struct Fields {
-    pub list: [Field; 128],
+    pub states: [FieldState; 128],
     pub count: usize,
     pub some: usize,
     pub full: usize,

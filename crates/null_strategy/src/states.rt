@@ -1,89 +1,81 @@
-// What the strategies read of an array's fields.
+// The states of an array's fields.
 ghost use mathlib.Core.Path.{_≡_};
 ghost use mathlib.Core.Bool.{true};
 ghost use Prim.Native.Nat.{_≤_};
-ghost use lib.ListN.{length};
-ghost use Rattle.union_array.specs.Buffers.{onlyMasks};
+ghost use Rattle.array_columns.specs.Buffers.{onlyWords};
 ghost use Rattle.union_array.specs.Slots.{inUse, all};
-ghost use Rattle.union_array.specs.Questions.{maskIn};
-ghost use Rattle.null_strategy.specs.Fields.{stateOf, fieldsOf, asColumn};
-use crate::Field;
+ghost use Rattle.union_array.specs.Questions.{presenceIn};
+ghost use Rattle.null_strategy.specs.Fields.{hasNulls, onlyNulls, stateOf, fieldsOf};
+use crate::FieldState;
 use crate::Fields;
-use union_array::Column;
-use union_array::Kind;
+use crate::State;
+use array_columns::Column;
+use array_columns::presence;
 use union_array::UnionArray;
-use union_array::presence;
 
-// 0 for a child without a null, 2 for a fully null one, 1 for any other.
-fn state_of(c: Column, masks: &[u64]) -> u8
-    requires { ⌜ maskIn c (length (now masks)) ≡ true ⌝ }
-    ensures { λ r. ⌜ r ≡ stateOf (onlyMasks (now (masks .entry))) c ⌝ }
+// Whether a child of this state has a null.
+pub fn has_null(state: State) -> bool
+    ensures { λ r. ⌜ r ≡ hasNulls state ⌝ }
 {
-    let counted = presence::null_count(c, masks);
-    let nulls = counted.nulls;
-    if nulls == 0 {
-        return 0;
+    match state {
+        State::NoNull => false,
+        State::SomeNull => true,
+        State::FullyNull => true,
     }
-    if bitmap::is_fully_null(nulls, c.slots as usize) {
-        return 2;
-    }
-    1
 }
 
-// Each field in use with its state, and how many have a null and how many are fully null.
-pub fn fields_of(array: UnionArray, masks: &[u64]) -> Fields
-    requires { ⌜ (array .fields ≤ 128) × (all (λ c. maskIn c (length (now masks))) (inUse array) ≡ true) ⌝ }
-    ensures { λ r. ⌜ r ≡ fieldsOf array (onlyMasks (now (masks .entry))) ⌝ }
+// Whether a child of this state is fully null.
+pub fn is_full(state: State) -> bool
+    ensures { λ r. ⌜ r ≡ onlyNulls state ⌝ }
 {
-    let none = Field {
-        mask: 0,
-        slots: 0,
-        bit: 0,
-        id: 0,
-        state: 0,
-        masked: false,
+    match state {
+        State::NoNull => false,
+        State::SomeNull => false,
+        State::FullyNull => true,
+    }
+}
+
+// The state of a child.
+fn state_of(c: Column, values: &[u64], masks: &[u64]) -> State
+    requires { ⌜ presenceIn (onlyWords (now values) (now masks)) c ≡ true ⌝ }
+    ensures { λ r. ⌜ r ≡ stateOf (onlyWords (now (values .entry)) (now (masks .entry))) c ⌝ }
+{
+    let counted = presence::null_count(c, values, masks);
+    let nulls = counted.nulls;
+    if nulls == 0 {
+        return State::NoNull;
+    }
+    if bitmap::is_fully_null(nulls, c.slots as usize) {
+        return State::FullyNull;
+    }
+    State::SomeNull
+}
+
+// The state of each field in use, and how many have a null and how many are fully null.
+pub fn fields_of(array: UnionArray, values: &[u64], masks: &[u64]) -> Fields
+    requires { ⌜ (array .fields ≤ 128) × (all (presenceIn (onlyWords (now values) (now masks))) (inUse array) ≡ true) ⌝ }
+    ensures { λ r. ⌜ r ≡ fieldsOf array (onlyWords (now (values .entry)) (now (masks .entry))) ⌝ }
+{
+    let none = FieldState {
+        state: State::NoNull,
     };
-    let mut list = [none; 128];
+    let mut states = [none; 128];
     let count = array.fields;
     let mut some: usize = 0;
     let mut full: usize = 0;
     let mut q: usize = 0;
     while q < count {
         let c = array.columns[q];
-        let state = state_of(c, masks);
-        list[q] = Field {
-            mask: c.mask,
-            slots: c.slots,
-            bit: c.bit,
-            id: c.id,
-            state,
-            masked: c.masked,
-        };
-        some += (0 < state) as usize;
-        full += (1 < state) as usize;
+        let state = state_of(c, values, masks);
+        states[q] = FieldState { state };
+        some += has_null(state) as usize;
+        full += is_full(state) as usize;
         q += 1;
     }
     Fields {
-        list,
+        states,
         count,
         some,
         full,
-    }
-}
-
-// The column of a field, as far as its mask goes.
-pub fn as_column(f: Field) -> Column
-    ensures { λ r. ⌜ r ≡ asColumn f ⌝ }
-{
-    Column {
-        values: 0,
-        mask: f.mask,
-        name: 0,
-        slots: f.slots,
-        bit: f.bit,
-        size: 0,
-        id: f.id,
-        kind: Kind::Int8,
-        masked: f.masked,
     }
 }

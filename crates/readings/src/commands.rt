@@ -1,5 +1,5 @@
 // What a line asks.
-use union_array::Kind;
+use array_columns::Kind;
 
 // Why a line is bad.
 pub enum Fault {
@@ -12,12 +12,11 @@ pub enum Fault {
     Value(Kind),
 }
 
-// A new builder; without a capacity it has 1024 slots.
+// A new builder.
 pub struct Making {
     pub capacity: usize,
     pub limit: usize,
     pub dense: bool,
-    pub sized: bool,
 }
 
 // A reading: its name is at `start` to `end` - 1 of the line.
@@ -41,8 +40,8 @@ pub enum Command {
     Make(Making),
     Append(Reading),
     Len,
-    Snapshot,
-    Finish,
+    // The batch so far, or the last one.
+    Describe(bool),
     Slice(Part),
     Mask(usize),
 }

@@ -10,8 +10,10 @@ use crate::state;
 use crate::state::State;
 use crate::table;
 use crate::words;
-use union_array::questions::entry_of;
+use array_columns::questions::entry_of;
+use program_kit::makings::making;
 use union_builder::Appended;
+use union_builder::Finished;
 use union_builder::Made;
 use union_builder::UnionBuilder;
 
@@ -26,35 +28,6 @@ fn made(s: State, m: Made, dense: bool, number: u64) -> State {
     state::with_builder(s, b)
 }
 
-fn new(
-    m: Making,
-    ids: &[i8],
-    offsets: &[i32],
-    values: &[u64],
-    masks: &[u64],
-    names: &[u8],
-) -> Made {
-    if m.dense {
-        return UnionBuilder::new_dense(m.limit, ids, offsets, values, masks, names);
-    }
-    UnionBuilder::new_sparse(m.limit, ids, offsets, values, masks, names)
-}
-
-fn with_capacity(
-    m: Making,
-    ids: &[i8],
-    offsets: &[i32],
-    values: &[u64],
-    masks: &[u64],
-    names: &[u8],
-) -> Made {
-    let c = m.capacity;
-    if m.dense {
-        return UnionBuilder::with_capacity_dense(c, m.limit, ids, offsets, values, masks, names);
-    }
-    UnionBuilder::with_capacity_sparse(c, m.limit, ids, offsets, values, masks, names)
-}
-
 fn make(
     s: State,
     m: Making,
@@ -65,11 +38,16 @@ fn make(
     masks: &[u64],
     names: &[u8],
 ) -> State {
-    if m.sized {
-        let r = with_capacity(m, ids, offsets, values, masks, names);
-        return made(s, r, m.dense, number);
-    }
-    let r = new(m, ids, offsets, values, masks, names);
+    let r = making(
+        m.dense,
+        m.capacity,
+        m.limit,
+        ids,
+        offsets,
+        values,
+        masks,
+        names,
+    );
     made(s, r, m.dense, number)
 }
 
@@ -148,33 +126,25 @@ fn len(s: State, number: u64) -> State {
     s
 }
 
-fn snapshot(
-    s: State,
-    number: u64,
+// What a builder describes: the batch so far, or the last one, which empties it.
+fn described(
+    b: UnionBuilder,
+    last: bool,
     ids: &[i8],
     offsets: &[i32],
     values: &[u64],
     masks: &[u64],
     names: &[u8],
-) -> State {
-    if !s.made {
-        say::no_builder(number);
-        return s;
+) -> Finished {
+    if last {
+        return b.finish(ids, offsets, values, masks, names);
     }
-    let b = s.builder;
-    let r = b.finish_cloned(ids, offsets, values, masks, names);
-    if r.refusal != 0 {
-        say::refused(number, r.refusal);
-        return s;
-    }
-    let a = r.array;
-    say::slots(number, b"snapshot of ", a.count, b"");
-    table::show(a, ids, offsets, values, masks, names);
-    state::with_batch(s, a, r.builder, false)
+    b.finish_cloned(ids, offsets, values, masks, names)
 }
 
-fn finish(
+fn describe(
     s: State,
+    last: bool,
     number: u64,
     ids: &[i8],
     offsets: &[i32],
@@ -187,20 +157,15 @@ fn finish(
         return s;
     }
     let b = s.builder;
-    let r = b.finish(ids, offsets, values, masks, names);
+    let r = described(b, last, ids, offsets, values, masks, names);
     if r.refusal != 0 {
         say::refused(number, r.refusal);
         return s;
     }
     let a = r.array;
-    say::slots(
-        number,
-        b"finished ",
-        a.count,
-        b"; the builder is now empty and sparse",
-    );
+    say::described(number, last, a.count);
     table::show(a, ids, offsets, values, masks, names);
-    state::with_batch(s, a, r.builder, true)
+    state::with_batch(s, a, r.builder, last)
 }
 
 fn slice(
@@ -254,6 +219,24 @@ fn bad(s: State, f: Fault, number: u64) -> State {
     s
 }
 
+// Answers a command on the batch.
+fn on_batch(
+    s: State,
+    command: Command,
+    number: u64,
+    ids: &[i8],
+    offsets: &[i32],
+    values: &[u64],
+    masks: &[u64],
+    names: &[u8],
+) -> State {
+    match command {
+        Command::Slice(p) => slice(s, p, number, ids, offsets, values, masks, names),
+        Command::Mask(c) => mask(s, c, number, ids, offsets, values, masks, names),
+        _ => s,
+    }
+}
+
 // Answers a command that stores no reading.
 fn show(
     s: State,
@@ -266,13 +249,11 @@ fn show(
     names: &[u8],
 ) -> State {
     match command {
+        Command::Bad(f) => bad(s, f, number),
         Command::Make(m) => make(s, m, number, ids, offsets, values, masks, names),
         Command::Len => len(s, number),
-        Command::Snapshot => snapshot(s, number, ids, offsets, values, masks, names),
-        Command::Finish => finish(s, number, ids, offsets, values, masks, names),
-        Command::Slice(p) => slice(s, p, number, ids, offsets, values, masks, names),
-        Command::Mask(c) => mask(s, c, number, ids, offsets, values, masks, names),
-        _ => s,
+        Command::Describe(last) => describe(s, last, number, ids, offsets, values, masks, names),
+        _ => on_batch(s, command, number, ids, offsets, values, masks, names),
     }
 }
 
@@ -289,7 +270,6 @@ pub fn execute(
     names: &mut [u8],
 ) -> State {
     match command {
-        Command::Bad(f) => bad(s, f, number),
         Command::Append(r) => append(s, r, text, number, ids, offsets, values, masks, names),
         _ => show(s, command, number, ids, offsets, values, masks, names),
     }

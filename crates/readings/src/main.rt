@@ -1,7 +1,6 @@
 // Reads commands from the files named as arguments, or from standard input, batches the readings and prints the answers.
 mod commands;
 mod execute;
-mod kinds;
 mod lines;
 mod masks;
 mod parse;
@@ -12,17 +11,19 @@ mod state;
 mod table;
 mod words;
 
+use program_kit::output;
+
 // The answers to one file, after its name.
 fn file(i: usize) {
     let mut path = io::buffer();
     let n = os::arg(i, &mut path);
-    print::text(&path[..n]);
+    output::text(&path[..n]);
     let fd = os::open_read(&path[..n]);
     if fd < 0 {
-        print::text(b": cannot be opened\n");
+        output::text(b": cannot be opened\n");
         return;
     }
-    print::text(b"\n");
+    output::text(b"\n");
     run::run(fd);
     libc::close(fd);
 }

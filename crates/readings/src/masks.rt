@@ -2,7 +2,9 @@
 use crate::print;
 use crate::say;
 use logical_nulls::LogicalNulls;
+use logical_nulls::Route;
 use logical_nulls::mask;
+use program_kit::output;
 use union_array::UnionArray;
 
 // Whether a slot is marked null: the mask is present, and its bit is clear.
@@ -17,36 +19,36 @@ pub fn is_null(r: LogicalNulls, words: &[u64], i: usize) -> bool {
     (words[w] >> (i % 64)) & 1 == 0
 }
 
-fn route_name(route: u8) {
+fn route_name(route: Route) {
     match route {
-        0 => print::text(b"no column has a null"),
-        1 => print::text(b"one column"),
-        2 => print::text(b"only nulls"),
-        3 => print::text(b"gather"),
-        4 => print::text(b"skip one"),
-        5 => print::text(b"skip without nulls"),
-        6 => print::text(b"skip fully null"),
-        _ => print::text(b"unknown"),
+        Route::Absent => output::text(b"no column has a null"),
+        Route::OneField => output::text(b"one column"),
+        Route::AllNull => output::text(b"only nulls"),
+        Route::Gather => output::text(b"gather"),
+        Route::SkipOne => output::text(b"skip one"),
+        Route::SkipWithoutNulls => output::text(b"skip without nulls"),
+        Route::SkipFullyNull => output::text(b"skip fully null"),
     }
 }
 
 // What the null mask of n slots answers, but for its words.
 pub fn summary(r: LogicalNulls, n: usize, setting: usize) {
-    print::text(b"nulls ");
+    output::text(b"nulls ");
     print::size(r.nulls);
-    print::text(b" of ");
+    output::text(b" of ");
     print::size(n);
     if r.present {
-        print::text(b", mask present, route ");
+        output::text(b", mask present, route ");
     } else {
-        print::text(b", mask absent, route ");
+        output::text(b", mask absent, route ");
     }
-    print::number(r.route as u64);
-    print::text(b" (");
-    route_name(r.route);
-    print::text(b") at setting ");
+    let route = r.route;
+    output::decimal(route.number() as u64);
+    output::text(b" (");
+    route_name(route);
+    output::text(b") at setting ");
     print::size(setting);
-    print::text(b"\n");
+    output::text(b"\n");
 }
 
 fn mark(null: bool) -> u8 {
@@ -64,9 +66,9 @@ fn marks(r: LogicalNulls, words: &[u64], first: usize, end: usize) {
         }
     }
     print::right_size(first, 10);
-    print::text(b"  ");
-    print::text(&out[..n]);
-    print::text(b"\n");
+    output::text(b"  ");
+    output::text(&out[..n]);
+    output::text(b"\n");
 }
 
 // The marks of n slots, 64 to a line.

@@ -4,12 +4,13 @@ use crate::commands::Fault;
 use crate::commands::Making;
 use crate::commands::Part;
 use crate::commands::Reading;
-use crate::kinds;
-use crate::kinds::Named;
 use crate::words;
 use crate::words::Word;
 use decimal::Bits;
 use decimal::integer;
+use union_text::KindNamed;
+use union_text::kind_names;
+use union_text::value_text;
 
 // The number that a word tells, if it is there.
 pub enum Count {
@@ -30,102 +31,161 @@ fn count_of(text: &[u8], w: Word) -> Count {
     }
 }
 
-// A command, if nothing follows it.
-fn alone(text: &[u8], from: usize, c: Command) -> Command {
-    let w = words::next_word(text, from);
-    if w.found {
-        return Command::Bad(Fault::Extra);
-    }
-    c
+// The numbers after a command, two at most: `bad` says that a word is none, `extra` that words follow.
+pub struct Counts {
+    pub first: usize,
+    pub second: usize,
+    pub count: usize,
+    pub bad: bool,
+    pub extra: bool,
 }
 
-// A making, after its first number.
-fn making_sized(text: &[u8], from: usize, dense: bool, first: usize) -> Command {
+fn is_more(text: &[u8], from: usize) -> bool {
+    let w = words::next_word(text, from);
+    w.found
+}
+
+fn none(bad: bool) -> Counts {
+    Counts {
+        first: 0,
+        second: 0,
+        count: 0,
+        bad,
+        extra: false,
+    }
+}
+
+// One number, and whether words follow.
+fn one(first: usize, extra: bool) -> Counts {
+    Counts {
+        first,
+        second: 0,
+        count: 1,
+        bad: false,
+        extra,
+    }
+}
+
+// The numbers of which the first was read.
+fn with_second(text: &[u8], from: usize, first: usize) -> Counts {
     let w = words::next_word(text, from);
     match count_of(text, w) {
-        Count::Missing => Command::Make(Making {
-            capacity: 0,
-            limit: first,
+        Count::Missing => one(first, false),
+        Count::Bad => none(true),
+        Count::Of(second) => Counts {
+            first,
+            second,
+            count: 2,
+            bad: false,
+            extra: is_more(text, w.next),
+        },
+    }
+}
+
+// The numbers after a command, `most` at most.
+fn numbers(text: &[u8], from: usize, most: usize) -> Counts {
+    let w = words::next_word(text, from);
+    match count_of(text, w) {
+        Count::Missing => none(false),
+        Count::Bad => none(true),
+        Count::Of(first) => {
+            if most < 2 {
+                return one(first, is_more(text, w.next));
+            }
+            with_second(text, w.next, first)
+        }
+    }
+}
+
+// A command of `least` numbers or more.
+fn counted(c: Counts, least: usize, command: Command) -> Command {
+    if c.bad {
+        return Command::Bad(Fault::Number);
+    }
+    if c.count < least {
+        return Command::Bad(Fault::Missing);
+    }
+    if c.extra {
+        return Command::Bad(Fault::Extra);
+    }
+    command
+}
+
+// A making: the slots and the columns, or the columns alone of one with 1024 slots.
+fn making_of(c: Counts, dense: bool) -> Making {
+    if c.count < 2 {
+        return Making {
+            capacity: 1024,
+            limit: c.first,
             dense,
-            sized: false,
-        }),
-        Count::Bad => Command::Bad(Fault::Number),
-        Count::Of(second) => alone(
-            text,
-            w.next,
-            Command::Make(Making {
-                capacity: first,
-                limit: second,
-                dense,
-                sized: true,
-            }),
-        ),
+        };
+    }
+    Making {
+        capacity: c.first,
+        limit: c.second,
+        dense,
     }
 }
 
 fn making(text: &[u8], from: usize, dense: bool) -> Command {
-    let w = words::next_word(text, from);
-    match count_of(text, w) {
-        Count::Missing => Command::Bad(Fault::Missing),
-        Count::Bad => Command::Bad(Fault::Number),
-        Count::Of(first) => making_sized(text, w.next, dense, first),
-    }
-}
-
-// A slice, after its start.
-fn slicing_from(text: &[u8], from: usize, start: usize) -> Command {
-    let w = words::next_word(text, from);
-    match count_of(text, w) {
-        Count::Missing => Command::Bad(Fault::Missing),
-        Count::Bad => Command::Bad(Fault::Number),
-        Count::Of(count) => alone(text, w.next, Command::Slice(Part { start, count })),
-    }
+    let c = numbers(text, from, 2);
+    counted(c, 1, Command::Make(making_of(c, dense)))
 }
 
 fn slicing(text: &[u8], from: usize) -> Command {
-    let w = words::next_word(text, from);
-    match count_of(text, w) {
-        Count::Missing => Command::Bad(Fault::Missing),
-        Count::Bad => Command::Bad(Fault::Number),
-        Count::Of(start) => slicing_from(text, w.next, start),
-    }
+    let c = numbers(text, from, 2);
+    let p = Part {
+        start: c.first,
+        count: c.second,
+    };
+    counted(c, 2, Command::Slice(p))
 }
 
 fn masking(text: &[u8], from: usize) -> Command {
-    let w = words::next_word(text, from);
-    match count_of(text, w) {
-        Count::Missing => Command::Bad(Fault::Missing),
-        Count::Bad => Command::Bad(Fault::Number),
-        Count::Of(setting) => alone(text, w.next, Command::Mask(setting)),
+    let c = numbers(text, from, 1);
+    counted(c, 1, Command::Mask(c.first))
+}
+
+// A reading, or why a line has none.
+pub enum Told {
+    Of(Reading),
+    Bad(Fault),
+}
+
+// A reading, if nothing follows it.
+fn whole(text: &[u8], from: usize, r: Reading) -> Told {
+    if is_more(text, from) {
+        return Told::Bad(Fault::Extra);
     }
+    Told::Of(r)
 }
 
 // A reading whose name and kind are read.
-fn with_value(text: &[u8], from: usize, r: Reading) -> Command {
+fn with_value(text: &[u8], from: usize, r: Reading) -> Told {
     let w = words::next_word(text, from);
     if !w.found {
-        return Command::Bad(Fault::Missing);
+        return Told::Bad(Fault::Missing);
     }
     let kind = r.kind;
-    let told = kinds::bits_of(words::part(text, w.start, w.end), kind);
+    let told = value_text::bits_of(words::part(text, w.start, w.end), kind);
     match told {
         Bits::Of(bits) => {
             let mut full = r;
             full.bits = bits;
-            alone(text, w.next, Command::Append(full))
+            whole(text, w.next, full)
         }
-        Bits::Refused => Command::Bad(Fault::Value(kind)),
+        Bits::Refused => Told::Bad(Fault::Value(kind)),
     }
 }
 
 // A reading whose name is the word `name`.
-fn with_kind(text: &[u8], name: Word, null: bool) -> Command {
+fn with_kind(text: &[u8], name: Word, null: bool) -> Told {
     let w = words::next_word(text, name.next);
     if !w.found {
-        return Command::Bad(Fault::Missing);
+        return Told::Bad(Fault::Missing);
     }
-    let Named::Of(kind) = kinds::kind_of(words::part(text, w.start, w.end)) else {
-        return Command::Bad(Fault::Kind);
+    let KindNamed::Of(kind) = kind_names::kind_named(words::part(text, w.start, w.end)) else {
+        return Told::Bad(Fault::Kind);
     };
     let r = Reading {
         start: name.start,
@@ -135,46 +195,57 @@ fn with_kind(text: &[u8], name: Word, null: bool) -> Command {
         null,
     };
     if null {
-        return alone(text, w.next, Command::Append(r));
+        return whole(text, w.next, r);
     }
     with_value(text, w.next, r)
 }
 
-fn append(text: &[u8], from: usize, null: bool) -> Command {
+fn reading(text: &[u8], from: usize, null: bool) -> Told {
     let w = words::next_name(text, from);
     if !w.found {
-        return Command::Bad(Fault::Missing);
+        return Told::Bad(Fault::Missing);
     }
     if !w.closed {
-        return Command::Bad(Fault::Quote);
+        return Told::Bad(Fault::Quote);
     }
     with_kind(text, w, null)
 }
 
+fn append(text: &[u8], from: usize, null: bool) -> Command {
+    match reading(text, from, null) {
+        Told::Of(r) => Command::Append(r),
+        Told::Bad(f) => Command::Bad(f),
+    }
+}
+
 // The commands without a number or a name.
-fn plain(text: &[u8], w: Word) -> Command {
-    let first = words::part(text, w.start, w.end);
+fn plain(first: &[u8]) -> Command {
     if words::same(first, b"len") {
-        return alone(text, w.next, Command::Len);
+        return Command::Len;
     }
     if words::same(first, b"snapshot") {
-        return alone(text, w.next, Command::Snapshot);
+        return Command::Describe(false);
     }
     if words::same(first, b"finish") {
-        return alone(text, w.next, Command::Finish);
+        return Command::Describe(true);
     }
     Command::Bad(Fault::Unknown)
 }
 
-// The command of a line that is neither empty nor a comment.
-fn command(text: &[u8], w: Word) -> Command {
+// A command that is one word, if no word follows it.
+fn alone(text: &[u8], from: usize, c: Command) -> Command {
+    if let Command::Bad(_) = c {
+        return c;
+    }
+    if is_more(text, from) {
+        return Command::Bad(Fault::Extra);
+    }
+    c
+}
+
+// The commands that have numbers.
+fn numbered(text: &[u8], w: Word) -> Command {
     let first = words::part(text, w.start, w.end);
-    if words::same(first, b"append") {
-        return append(text, w.next, false);
-    }
-    if words::same(first, b"null") {
-        return append(text, w.next, true);
-    }
     if words::same(first, b"dense") {
         return making(text, w.next, true);
     }
@@ -187,7 +258,19 @@ fn command(text: &[u8], w: Word) -> Command {
     if words::same(first, b"mask") {
         return masking(text, w.next);
     }
-    plain(text, w)
+    alone(text, w.next, plain(first))
+}
+
+// The command of a line that is neither empty nor a comment.
+fn command(text: &[u8], w: Word) -> Command {
+    let first = words::part(text, w.start, w.end);
+    if words::same(first, b"append") {
+        return append(text, w.next, false);
+    }
+    if words::same(first, b"null") {
+        return append(text, w.next, true);
+    }
+    numbered(text, w)
 }
 
 // What a line asks.

@@ -1,32 +1,27 @@
 // Text and numbers on standard output.
+use array_columns::Kind;
 use decimal::write;
-use libc::STDOUT_FILENO;
-
-pub fn text(s: &[u8]) {
-    io::write_all(STDOUT_FILENO, s);
-}
+use program_kit::output;
+use union_text::kind_names;
+use union_text::printable;
 
 // Prints a text; answers its length.
 pub fn sized(s: &[u8]) -> usize {
-    text(s);
+    output::text(s);
     s.len()
 }
 
-pub fn number(n: u64) {
-    io::print_decimal(STDOUT_FILENO, n);
-}
-
 pub fn size(n: usize) {
-    number(n as u64);
+    output::decimal(n as u64);
 }
 
 // A number and a word for what it counts, with an s unless it is one.
 pub fn counted(n: usize, what: &[u8]) {
     size(n);
-    text(b" ");
-    text(what);
+    output::text(b" ");
+    output::text(what);
     if n != 1 {
-        text(b"s");
+        output::text(b"s");
     }
 }
 
@@ -34,10 +29,10 @@ pub fn counted(n: usize, what: &[u8]) {
 pub fn spaces(n: usize) {
     let blank = [b' '; 64];
     if 64 < n {
-        text(&blank);
+        output::text(&blank);
         return;
     }
-    text(&blank[..n]);
+    output::text(&blank[..n]);
 }
 
 // Spaces up to a width, after k characters.
@@ -50,7 +45,7 @@ pub fn fill(k: usize, width: usize) {
 // A text at the right of a field.
 pub fn right(s: &[u8], width: usize) {
     fill(s.len(), width);
-    text(s);
+    output::text(s);
 }
 
 // A number at the right of a field.
@@ -60,31 +55,24 @@ pub fn right_size(n: usize, width: usize) {
     right(&out[..k], width);
 }
 
-// A byte of a name as it is shown: a control byte as a question mark.
-fn shown(b: u8) -> u8 {
-    if b < 32 {
-        return b'?';
-    }
-    if b == 127 {
-        return b'?';
-    }
-    b
+// A kind's name; answers its length.
+pub fn kind(k: Kind) -> usize {
+    let name = kind_names::kind_name(k);
+    let bytes = name.bytes;
+    let size = name.size;
+    sized(&bytes[..size])
 }
 
-// A name, cut to 32 bytes.
+// A name, cut to 32 bytes, as it is printed.
 pub fn name(s: &[u8]) {
     let mut out = [0u8; 32];
-    for i in 0..32 {
-        if i < s.len() {
-            out[i] = shown(s[i]);
-        }
-    }
-    let n = s.len();
-    if 32 < n {
-        text(&out);
+    if s.len() <= 32 {
+        let n = printable::put_printable(s, 0, &mut out);
+        output::text(&out[..n]);
         return;
     }
-    text(&out[..n]);
+    printable::put_printable(&s[..32], 0, &mut out);
+    output::text(&out);
 }
 
 // The characters of a name in UTF-8.

@@ -1,21 +1,21 @@
 // Answers in words.
 use crate::commands::Fault;
-use crate::kinds;
 use crate::print;
-use union_array::Kind;
+use array_columns::Kind;
+use program_kit::output;
 
 // A line's number, before its answer.
 pub fn line(number: u64) {
-    print::number(number);
-    print::text(b": ");
+    output::decimal(number);
+    output::text(b": ");
 }
 
 // A bad line, which changes nothing.
 pub fn bad(number: u64, why: &[u8]) {
     line(number);
-    print::text(b"bad line: ");
-    print::text(why);
-    print::text(b"\n");
+    output::text(b"bad line: ");
+    output::text(why);
+    output::text(b"\n");
 }
 
 pub fn fault(number: u64, f: Fault) {
@@ -33,46 +33,88 @@ pub fn fault(number: u64, f: Fault) {
 // A value that its kind does not have.
 fn bad_value(number: u64, kind: Kind) {
     line(number);
-    print::text(b"bad line: the value is not a number of kind ");
-    kinds::show(kind);
-    print::text(b"\n");
+    output::text(b"bad line: the value is not a number of kind ");
+    print::kind(kind);
+    output::text(b"\n");
+}
+
+// What 1 to 4 say, of a description and the memory.
+fn of_parts(n: u8) {
+    match n {
+        1 => output::text(b"more than 128 columns, or ids that are not distinct and from 0 to 127"),
+        2 => output::text(b"not as many children as columns"),
+        3 => output::text(b"a part lies outside the memory, or a name has more than 32 bytes"),
+        _ => output::text(b"more than 65536 slots"),
+    }
+}
+
+// What 5 to 8 say, of slots, offsets and ids.
+fn of_slots(n: u8) {
+    match n {
+        5 => output::text(b"not as many offsets as slots"),
+        6 => output::text(b"a column has not as many slots as the batch"),
+        7 => output::text(b"a slot's id names no column"),
+        _ => output::text(b"an offset lies outside its column"),
+    }
+}
+
+// What 9 to 11 say, of a call's numbers.
+fn of_places(n: u8) {
+    match n {
+        9 => output::text(b"the slice ends after the last slot"),
+        10 => output::text(b"no such slot"),
+        _ => output::text(b"no such column"),
+    }
+}
+
+// What 12 to 14 say, of null masks.
+fn of_masks(n: u8) {
+    match n {
+        12 => output::text(b"the setting is none of 10, 3, 2 and 0"),
+        13 => output::text(b"too few words for the mask"),
+        _ => output::text(b"the strategy does not apply"),
+    }
+}
+
+// What 15 to 17 say, of a builder and a name.
+fn of_builders(n: u8) {
+    match n {
+        15 => output::text(b"a builder has 1 to 65536 slots and 1 to 128 columns"),
+        16 => output::text(b"the memory is too small for so many slots and columns"),
+        _ => output::text(b"the name is not UTF-8 of at most 32 bytes"),
+    }
+}
+
+// What 18 to 20 say, of an append.
+fn of_appends(n: u8) {
+    match n {
+        18 => output::text(b"the column has another kind"),
+        19 => output::text(b"every slot is taken"),
+        _ => output::text(b"every column is taken"),
+    }
 }
 
 // What each refusal of document 01 says.
 fn sentence(n: u8) {
     match n {
-        1 => print::text(b"more than 128 columns, or ids that are not distinct and from 0 to 127"),
-        2 => print::text(b"not as many children as columns"),
-        3 => print::text(b"a part lies outside the memory, or a name has more than 32 bytes"),
-        4 => print::text(b"more than 65536 slots"),
-        5 => print::text(b"not as many offsets as slots"),
-        6 => print::text(b"a column has not as many slots as the batch"),
-        7 => print::text(b"a slot's id names no column"),
-        8 => print::text(b"an offset lies outside its column"),
-        9 => print::text(b"the slice ends after the last slot"),
-        10 => print::text(b"no such slot"),
-        11 => print::text(b"no such column"),
-        12 => print::text(b"the setting is none of 10, 3, 2 and 0"),
-        13 => print::text(b"too few words for the mask"),
-        14 => print::text(b"the strategy does not apply"),
-        15 => print::text(b"a builder has 1 to 65536 slots and 1 to 128 columns"),
-        16 => print::text(b"the memory is too small for so many slots and columns"),
-        17 => print::text(b"the name is not UTF-8 of at most 32 bytes"),
-        18 => print::text(b"the column has another kind"),
-        19 => print::text(b"every slot is taken"),
-        20 => print::text(b"every column is taken"),
-        _ => print::text(b"unknown"),
+        1..=4 => of_parts(n),
+        5..=8 => of_slots(n),
+        9..=11 => of_places(n),
+        12..=14 => of_masks(n),
+        15..=17 => of_builders(n),
+        18..=20 => of_appends(n),
+        _ => output::text(b"unknown"),
     }
 }
 
 // A refusal: its number and its sentence.
 pub fn refused(number: u64, n: u8) {
     line(number);
-    print::text(b"refused ");
-    print::number(n as u64);
-    print::text(b": ");
+    output::text(b"refused ");
+    output::decimal(n as u64);
+    output::text(b": ");
     sentence(n);
-    print::text(b"\n");
+    output::text(b"\n");
 }
 
 // A refused append; a known name of another kind is named.
@@ -82,58 +124,72 @@ pub fn refused_append(number: u64, n: u8, name: &[u8]) {
         return;
     }
     line(number);
-    print::text(b"refused 18: the column \"");
+    output::text(b"refused 18: the column \"");
     print::name(name);
-    print::text(b"\" has another kind\n");
+    output::text(b"\" has another kind\n");
 }
 
 pub fn no_builder(number: u64) {
     line(number);
-    print::text(b"no builder yet\n");
+    output::text(b"no builder yet\n");
 }
 
 pub fn no_batch(number: u64) {
     line(number);
-    print::text(b"no batch yet\n");
+    output::text(b"no batch yet\n");
 }
 
 // A making's answer.
 pub fn made(number: u64, dense: bool, capacity: usize, limit: usize) {
     line(number);
     if dense {
-        print::text(b"dense");
+        output::text(b"dense");
     } else {
-        print::text(b"sparse");
+        output::text(b"sparse");
     }
-    print::text(b" builder of ");
+    output::text(b" builder of ");
     print::counted(capacity, b"slot");
-    print::text(b" and ");
+    output::text(b" and ");
     print::counted(limit, b"column");
-    print::text(b"\n");
+    output::text(b"\n");
 }
 
 // An append's answer.
 pub fn appended(number: u64, null: bool, fresh: bool, column: usize, len: usize) {
     line(number);
     if null {
-        print::text(b"null ");
+        output::text(b"null ");
     }
-    print::text(b"appended to ");
+    output::text(b"appended to ");
     if fresh {
-        print::text(b"new ");
+        output::text(b"new ");
     }
-    print::text(b"column ");
+    output::text(b"column ");
     print::size(column);
-    print::text(b", ");
+    output::text(b", ");
     print::counted(len, b"slot");
-    print::text(b" so far\n");
+    output::text(b" so far\n");
+}
+
+// The batch that a builder described, or finished.
+pub fn described(number: u64, last: bool, n: usize) {
+    if last {
+        slots(
+            number,
+            b"finished ",
+            n,
+            b"; the builder is now empty and sparse",
+        );
+        return;
+    }
+    slots(number, b"snapshot of ", n, b"");
 }
 
 // How many slots there are, between two texts.
 pub fn slots(number: u64, before: &[u8], n: usize, after: &[u8]) {
     line(number);
-    print::text(before);
+    output::text(before);
     print::counted(n, b"slot");
-    print::text(after);
-    print::text(b"\n");
+    output::text(after);
+    output::text(b"\n");
 }

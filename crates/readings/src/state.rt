@@ -13,15 +13,18 @@ pub struct State {
     pub past: bool,
 }
 
-// No builder and no batch.
-pub fn start() -> State {
+// A builder whose making was refused, to which nothing is appended.
+fn no_builder() -> UnionBuilder {
     let none: [u8; 0] = [];
     let m = UnionBuilder::new_sparse(0, &[], &[], &[], &[], &none);
-    let builder = m.builder;
-    let array = slices::no_array();
+    m.builder
+}
+
+// No builder and no batch.
+pub fn start() -> State {
     State {
-        array,
-        builder,
+        array: slices::no_array(),
+        builder: no_builder(),
         made: false,
         shown: false,
         past: false,

@@ -1,13 +1,14 @@
 // A batch as a table: a row to each slot, and its null mask at setting 10.
-use crate::kinds;
 use crate::masks as null_masks;
 use crate::print;
+use array_columns::Column;
+use array_columns::Value;
+use array_columns::questions::entry_of;
 use logical_nulls::LogicalNulls;
 use logical_nulls::mask;
-use union_array::Column;
+use program_kit::output;
 use union_array::UnionArray;
-use union_array::Value;
-use union_array::questions::entry_of;
+use union_text::value_text;
 
 // The widths of the names and of the values.
 pub struct Widths {
@@ -53,7 +54,7 @@ fn value_size(v: Value) -> usize {
     }
     let kind = v.kind;
     let mut out = [0u8; 40];
-    kinds::value_text(v.bits, kind, &mut out)
+    value_text::value_text(v.bits, kind, &mut out)
 }
 
 // The width of the values, at least that of their heading.
@@ -74,11 +75,11 @@ fn value_width(
 }
 
 fn heading(w: Widths) {
-    print::text(b"      slot   id  name");
+    output::text(b"      slot   id  name");
     print::fill(4, w.names);
-    print::text(b"  kind     ");
+    output::text(b"  kind     ");
     print::right(b"value", w.values);
-    print::text(b"  mark\n");
+    output::text(b"  mark\n");
 }
 
 // A name, and spaces up to the width.
@@ -100,15 +101,15 @@ fn value_field(v: Value, width: usize) {
     }
     let kind = v.kind;
     let mut out = [0u8; 40];
-    let n = kinds::value_text(v.bits, kind, &mut out);
+    let n = value_text::value_text(v.bits, kind, &mut out);
     print::right(&out[..n], width);
 }
 
 fn mark_field(null: bool) {
     if null {
-        print::text(b"  null\n");
+        output::text(b"  null\n");
     } else {
-        print::text(b"  -\n");
+        output::text(b"  -\n");
     }
 }
 
@@ -118,10 +119,10 @@ fn row(v: Value, i: usize, w: Widths, null: bool) {
     let kind = v.kind;
     print::right_size(i, 10);
     print::right_size(entry_of(id), 5);
-    print::text(b"  ");
+    output::text(b"  ");
     name_field(v, w.names);
-    print::text(b"  ");
-    print::fill(kinds::show(kind), 9);
+    output::text(b"  ");
+    print::fill(print::kind(kind), 9);
     value_field(v, w.values);
     mark_field(null);
 }
@@ -164,6 +165,6 @@ pub fn show(
         heading(w);
     }
     rows(a, a.count, w, r, &words, ids, offsets, values, masks, names);
-    print::text(b"   ");
+    output::text(b"   ");
     null_masks::summary(r, a.count, 10);
 }

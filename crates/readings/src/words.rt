@@ -1,4 +1,5 @@
 // Words of a line: runs of bytes between spaces and tabs, or for a name between double quotes.
+use union_names::names;
 ghost use Prim.Native.Nat.{_<_};
 ghost use lib.ListN.{length};
 
@@ -15,35 +16,26 @@ fn is_blank(b: u8) -> bool {
     b == b' ' || b == b'\t'
 }
 
-// The first byte from `from` on that is no blank.
-fn skip_blanks(text: &[u8], from: usize) -> usize {
-    let mut i = from;
-    while i < text.len() {
-        if !is_blank(text[i]) {
-            return i;
-        }
-        i += 1;
-    }
-    i
+// What a search looks for.
+enum Mark {
+    Blank,
+    NoBlank,
+    Quote,
 }
 
-// The first blank from `from` on.
-fn bare_end(text: &[u8], from: usize) -> usize {
-    let mut i = from;
-    while i < text.len() {
-        if is_blank(text[i]) {
-            return i;
-        }
-        i += 1;
+fn is_mark(b: u8, m: Mark) -> bool {
+    match m {
+        Mark::Blank => is_blank(b),
+        Mark::NoBlank => !is_blank(b),
+        Mark::Quote => b == b'"',
     }
-    i
 }
 
-// The first double quote from `from` on.
-fn quote_end(text: &[u8], from: usize) -> usize {
+// The place of the first mark from `from` on, or the end.
+fn find(text: &[u8], from: usize, m: Mark) -> usize {
     let mut i = from;
     while i < text.len() {
-        if text[i] == b'"' {
+        if is_mark(text[i], m) {
             return i;
         }
         i += 1;
@@ -53,8 +45,8 @@ fn quote_end(text: &[u8], from: usize) -> usize {
 
 // The next bare word.
 pub fn next_word(text: &[u8], from: usize) -> Word {
-    let start = skip_blanks(text, from);
-    let end = bare_end(text, start);
+    let start = find(text, from, Mark::NoBlank);
+    let end = find(text, start, Mark::Blank);
     Word {
         start,
         end,
@@ -69,7 +61,7 @@ fn quoted(text: &[u8], quote: usize) -> Word
     requires { ⌜ quote < length (now text) ⌝ }
 {
     let start = quote + 1;
-    let end = quote_end(text, start);
+    let end = find(text, start, Mark::Quote);
     if text.len() <= end {
         return Word {
             start,
@@ -85,13 +77,13 @@ fn quoted(text: &[u8], quote: usize) -> Word
         end,
         next,
         found: true,
-        closed: bare_end(text, next) == next,
+        closed: find(text, next, Mark::Blank) == next,
     }
 }
 
 // The next word, a name.
 pub fn next_name(text: &[u8], from: usize) -> Word {
-    let start = skip_blanks(text, from);
+    let start = find(text, from, Mark::NoBlank);
     if start < text.len() {
         if text[start] == b'"' {
             return quoted(text, start);
@@ -113,13 +105,5 @@ pub fn part(text: &[u8], start: usize, end: usize) -> &[u8] {
 
 // Whether two texts are the same bytes.
 pub fn same(a: &[u8], b: &[u8]) -> bool {
-    if a.len() != b.len() {
-        return false;
-    }
-    for i in 0..a.len() {
-        if a[i] != b[i] {
-            return false;
-        }
-    }
-    true
+    names::same_name(a, 0, a.len(), b)
 }

@@ -1,51 +1,20 @@
 // Calls 20 to 26, on the builder.
 use crate::describe;
 use crate::describe::Call;
-use crate::lists;
 use crate::numbers;
 use crate::print;
+use program_kit::makings::making;
+use program_kit::output;
+use program_kit::parts;
 use union_array::UnionArray;
 use union_builder::Appended;
 use union_builder::Finished;
-use union_builder::Made;
 use union_builder::UnionBuilder;
 
 // What calls are made on: the builder, and the array that it finished last or one of its slices.
 pub struct Subject {
     pub builder: UnionBuilder,
     pub array: UnionArray,
-}
-
-// A dense builder; one of 1024 slots is made by `new_dense`.
-fn made_dense(
-    capacity: usize,
-    limit: usize,
-    ids: &[i8],
-    offsets: &[i32],
-    values: &[u64],
-    masks: &[u64],
-    names: &[u8],
-) -> Made {
-    if capacity == 1024 {
-        return UnionBuilder::new_dense(limit, ids, offsets, values, masks, names);
-    }
-    UnionBuilder::with_capacity_dense(capacity, limit, ids, offsets, values, masks, names)
-}
-
-// A sparse builder; one of 1024 slots is made by `new_sparse`.
-fn made_sparse(
-    capacity: usize,
-    limit: usize,
-    ids: &[i8],
-    offsets: &[i32],
-    values: &[u64],
-    masks: &[u64],
-    names: &[u8],
-) -> Made {
-    if capacity == 1024 {
-        return UnionBuilder::new_sparse(limit, ids, offsets, values, masks, names);
-    }
-    UnionBuilder::with_capacity_sparse(capacity, limit, ids, offsets, values, masks, names)
 }
 
 // Calls 20 and 21: the builder is the one made, refused or not.
@@ -58,13 +27,16 @@ pub fn made(
     masks: &[u64],
     names: &[u8],
 ) -> Subject {
-    let capacity = c.a as usize;
-    let limit = c.b as usize;
-    let m = if c.op == 20 {
-        made_dense(capacity, limit, ids, offsets, values, masks, names)
-    } else {
-        made_sparse(capacity, limit, ids, offsets, values, masks, names)
-    };
+    let m = making(
+        c.op == 20,
+        c.a as usize,
+        c.b as usize,
+        ids,
+        offsets,
+        values,
+        masks,
+        names,
+    );
     let builder = m.builder;
     let array = s.array;
     print::line(c, m.refusal);
@@ -85,7 +57,7 @@ fn append(
     names: &mut [u8],
 ) -> Appended {
     let start = numbers::size(words, reading);
-    let name = lists::part(text, start, numbers::size(words, numbers::past(reading, 1)));
+    let name = parts::bytes(text, start, numbers::size(words, numbers::past(reading, 1)));
     let kind = describe::kind_of(numbers::get(words, numbers::past(reading, 2)));
     if c.op == 23 {
         return b.append_null(name, kind, ids, offsets, values, masks, names);
@@ -142,15 +114,15 @@ fn told(c: Call, f: Finished, before: UnionArray) -> Subject {
     let a = f.array;
     print::start(c, f.refusal);
     if f.refusal != 0 {
-        print::end();
+        output::end();
         return Subject {
             builder,
             array: before,
         };
     }
-    print::size(a.count);
-    print::size(a.fields);
-    print::end();
+    output::size(a.count);
+    output::size(a.fields);
+    output::end();
     Subject { builder, array: a }
 }
 

@@ -7,10 +7,11 @@ use crate::lists;
 use crate::numbers;
 use union_builder::UnionBuilder;
 
-// Fills the memory of a case.
-fn fill(
+// Stores entry i of each part of a case's memory.
+fn put(
     words: &[u64],
     p: Places,
+    i: usize,
     text: &mut [u8],
     ids: &mut [i8],
     offsets: &mut [i32],
@@ -18,12 +19,29 @@ fn fill(
     masks: &mut [u64],
     names: &mut [u8],
 ) {
-    lists::bytes(words, p.text, text);
-    lists::ids(words, p.ids, ids);
-    lists::offsets(words, p.offsets, offsets);
-    lists::words(words, p.values, values);
-    lists::words(words, p.masks, masks);
-    lists::bytes(words, p.names, names);
+    lists::put_byte(words, p.text, i, text);
+    lists::put_id(words, p.ids, i, ids);
+    lists::put_offset(words, p.offsets, i, offsets);
+    lists::put_word(words, p.values, i, values);
+    lists::put_word(words, p.masks, i, masks);
+    lists::put_byte(words, p.names, i, names);
+}
+
+// Fills the memory of a case, n entries of each part at most.
+fn fill(
+    words: &[u64],
+    p: Places,
+    n: usize,
+    text: &mut [u8],
+    ids: &mut [i8],
+    offsets: &mut [i32],
+    values: &mut [u64],
+    masks: &mut [u64],
+    names: &mut [u8],
+) {
+    for i in 0..n {
+        put(words, p, i, text, ids, offsets, values, masks, names);
+    }
 }
 
 // What the calls of the case at a place are made on first: its array, and a builder whose making was refused.
@@ -48,7 +66,8 @@ fn case_in(
     names: &mut [u8],
 ) -> usize {
     let p = describe::locate(words, at);
-    fill(words, p, text, ids, offsets, values, masks, names);
+    let n = describe::most_lent(words, p);
+    fill(words, p, n, text, ids, offsets, values, masks, names);
     calls::run(
         subject(words, at),
         words,

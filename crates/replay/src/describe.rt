@@ -1,11 +1,12 @@
 // A case's description of a union array, where its lists are, and its calls.
 use crate::narrow;
 use crate::numbers;
-use union_array::Column;
-use union_array::Kind;
-use union_array::Layout;
+use array_columns::Column;
+use array_columns::Kind;
+use array_columns::Layout;
+use array_columns::kinds;
+use array_columns::questions;
 use union_array::UnionArray;
-use union_array::questions;
 ghost use Prim.Native.Nat.{_≤_};
 
 // Where a case has its lists and its calls.
@@ -29,34 +30,12 @@ pub struct Call {
     pub short: u64,
 }
 
+// The kind with a number; any other number is read as Int8.
 pub fn kind_of(n: u64) -> Kind {
-    match n {
-        1 => Kind::Int16,
-        2 => Kind::Int32,
-        3 => Kind::Int64,
-        4 => Kind::UInt8,
-        5 => Kind::UInt16,
-        6 => Kind::UInt32,
-        7 => Kind::UInt64,
-        8 => Kind::Float32,
-        9 => Kind::Float64,
-        _ => Kind::Int8,
+    if n < 10 {
+        return kinds::kind_from(n as u8);
     }
-}
-
-pub fn kind_number(kind: Kind) -> u64 {
-    match kind {
-        Kind::Int8 => 0,
-        Kind::Int16 => 1,
-        Kind::Int32 => 2,
-        Kind::Int64 => 3,
-        Kind::UInt8 => 4,
-        Kind::UInt16 => 5,
-        Kind::UInt32 => 6,
-        Kind::UInt64 => 7,
-        Kind::Float32 => 8,
-        Kind::Float64 => 9,
-    }
+    Kind::Int8
 }
 
 fn layout_of(n: u64) -> Layout {
@@ -144,6 +123,17 @@ pub fn locate(words: &[u64], at: usize) -> Places {
         readings,
         calls: numbers::after(words, readings),
     }
+}
+
+// How many entries of a part are lent at most, up to 65537.
+pub fn most_lent(words: &[u64], p: Places) -> usize {
+    let ids = numbers::most(numbers::size(words, p.ids), numbers::size(words, p.offsets));
+    let values = numbers::most(
+        numbers::size(words, p.values),
+        numbers::size(words, p.masks),
+    );
+    let names = numbers::most(numbers::size(words, p.names), numbers::size(words, p.text));
+    numbers::least(numbers::most(ids, numbers::most(values, names)), 65537)
 }
 
 // The call whose five numbers are at a place.

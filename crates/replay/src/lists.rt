@@ -15,60 +15,37 @@ fn entry(list: &[u64], i: usize) -> u64 {
     list[n - 1]
 }
 
-// The type ids lent at a place, as many as there is room for.
-pub fn ids(words: &[u64], at: usize, out: &mut [i8]) {
-    let list = numbers::list(words, numbers::past(at, 1));
-    for i in 0..numbers::size(words, at) {
-        if out.len() <= i {
-            return;
-        }
-        out[i] = narrow::id(entry(list, i));
+// Entry i of the memory lent at a place.
+fn lent_entry(words: &[u64], at: usize, i: usize) -> u64 {
+    entry(numbers::list(words, numbers::past(at, 1)), i)
+}
+
+// Stores type id i of those lent at a place, if it is lent and there is room for it.
+pub fn put_id(words: &[u64], at: usize, i: usize, out: &mut [i8]) {
+    if i < lent(words, at, false, out.len()) {
+        out[i] = narrow::id(lent_entry(words, at, i));
     }
 }
 
-// The offsets lent at a place, as many as there is room for.
-pub fn offsets(words: &[u64], at: usize, out: &mut [i32]) {
-    let list = numbers::list(words, numbers::past(at, 1));
-    for i in 0..numbers::size(words, at) {
-        if out.len() <= i {
-            return;
-        }
-        out[i] = narrow::offset(entry(list, i));
+// Stores offset i of those lent at a place, if it is lent and there is room for it.
+pub fn put_offset(words: &[u64], at: usize, i: usize, out: &mut [i32]) {
+    if i < lent(words, at, false, out.len()) {
+        out[i] = narrow::offset(lent_entry(words, at, i));
     }
 }
 
-// The words lent at a place, as many as there is room for.
-pub fn words(words: &[u64], at: usize, out: &mut [u64]) {
-    let list = numbers::list(words, numbers::past(at, 1));
-    for i in 0..numbers::size(words, at) {
-        if out.len() <= i {
-            return;
-        }
-        out[i] = entry(list, i);
+// Stores word i of those lent at a place, if it is lent and there is room for it.
+pub fn put_word(words: &[u64], at: usize, i: usize, out: &mut [u64]) {
+    if i < lent(words, at, false, out.len()) {
+        out[i] = lent_entry(words, at, i);
     }
 }
 
-// The bytes lent at a place, as many as there is room for.
-pub fn bytes(words: &[u64], at: usize, out: &mut [u8]) {
-    let list = numbers::list(words, numbers::past(at, 1));
-    for i in 0..numbers::size(words, at) {
-        if out.len() <= i {
-            return;
-        }
-        out[i] = narrow::byte(entry(list, i));
+// Stores byte i of those lent at a place, if it is lent and there is room for it.
+pub fn put_byte(words: &[u64], at: usize, i: usize, out: &mut [u8]) {
+    if i < lent(words, at, false, out.len()) {
+        out[i] = narrow::byte(lent_entry(words, at, i));
     }
-}
-
-// Bytes from a start on; none if they are not there.
-pub fn part(list: &[u8], start: usize, n: usize) -> &[u8] {
-    if list.len() < start {
-        return &list[0..0];
-    }
-    if list.len() - start < n {
-        return &list[0..0];
-    }
-    let end = start + n;
-    &list[start..end]
 }
 
 // How much of the part at a place is lent: one entry less to a call that is short of it, at most what there is.

@@ -6,6 +6,7 @@ use logical_nulls::LogicalNulls;
 use logical_nulls::SparseStrategy;
 use logical_nulls::mask;
 use logical_nulls::named;
+use program_kit::output;
 use union_array::UnionArray;
 
 // Whether the mask is present, its null count, its route, and the words lent, as the call left them.
@@ -13,11 +14,12 @@ fn told(c: Call, r: LogicalNulls, out: &[u64]) {
     print::start(c, r.refusal);
     if r.refusal == 0 {
         print::flag(r.present);
-        print::size(r.nulls);
-        print::small(r.route);
-        print::words(out);
+        output::size(r.nulls);
+        let route = r.route;
+        output::small(route.number());
+        output::words(out, false);
     }
-    print::end();
+    output::end();
 }
 
 // The strategy of a route.

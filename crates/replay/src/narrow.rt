@@ -21,11 +21,3 @@ pub fn offset(n: u64) -> i32 {
     }
     !((4294967295 - w) as i32)
 }
-
-// The 32 bits of an offset that is at least 0; all ones for one below.
-pub fn offset_bits(offset: i32) -> u64 {
-    if offset < 0 {
-        return 4294967295;
-    }
-    offset as u64
-}

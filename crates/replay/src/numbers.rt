@@ -1,4 +1,5 @@
 // The numbers of a text, and lists among them. A number or a list past the end is 0 or empty.
+use program_kit::parts;
 ghost use Prim.Native.Nat.{_≤_};
 
 // A byte's digit; 10 if it is none.
@@ -94,21 +95,13 @@ pub fn least(a: usize, b: usize) -> usize
     b
 }
 
-// Numbers from a start on; none if they are not there.
-pub fn part(words: &[u64], start: usize, n: usize) -> &[u64] {
-    if words.len() < start {
-        return &words[0..0];
-    }
-    if words.len() - start < n {
-        return &words[0..0];
-    }
-    let end = start + n;
-    &words[start..end]
+pub fn most(a: usize, b: usize) -> usize {
+    if a < b { b } else { a }
 }
 
 // The list at a place: its length, then as many entries.
 pub fn list(words: &[u64], at: usize) -> &[u64] {
-    part(words, past(at, 1), size(words, at))
+    parts::words(words, past(at, 1), size(words, at))
 }
 
 // The place after the list at a place.

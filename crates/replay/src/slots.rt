@@ -1,10 +1,11 @@
 // Calls 2 to 4: a slot's value, type id and offset.
-use crate::describe;
 use crate::describe::Call;
 use crate::print;
+use array_columns::Value;
+use array_columns::kinds::kind_number;
+use array_columns::questions::entry_of;
+use program_kit::output;
 use union_array::UnionArray;
-use union_array::Value;
-use union_array::questions::entry_of;
 
 // A value's id, kind, whether it is missing, bits, and name.
 fn told_value(c: Call, v: Value) {
@@ -12,13 +13,13 @@ fn told_value(c: Call, v: Value) {
     let name = v.name;
     print::start(c, v.refusal);
     if v.refusal == 0 {
-        print::size(entry_of(v.id));
-        print::number(describe::kind_number(kind));
+        output::id(v.id);
+        output::small(kind_number(kind));
         print::flag(v.missing);
-        print::number(v.bits);
+        output::number(v.bits);
         print::name_of(name, v.size);
     }
-    print::end();
+    output::end();
 }
 
 pub fn answer(

@@ -1,16 +1,15 @@
 // Calls 1, 5 to 9 and 12 to 15: what is told of the whole array, and its slices.
-use crate::describe;
 use crate::describe::Call;
-use crate::lists;
 use crate::narrow;
-use crate::numbers;
 use crate::print;
+use array_columns::Column;
+use array_columns::kinds::kind_number;
+use program_kit::output;
+use program_kit::parts;
 use union_array::Child;
-use union_array::Column;
 use union_array::NamePlace;
 use union_array::TypeNames;
 use union_array::UnionArray;
-use union_array::questions::entry_of;
 
 // A child's id, kind, slots, whether it has a mask, and name.
 fn told_child(c: Call, r: Child, names: &[u8]) {
@@ -18,13 +17,13 @@ fn told_child(c: Call, r: Child, names: &[u8]) {
     let kind = column.kind;
     print::start(c, r.refusal);
     if r.refusal == 0 {
-        print::size(entry_of(column.id));
-        print::number(describe::kind_number(kind));
-        print::number(column.slots as u64);
+        output::id(column.id);
+        output::small(kind_number(kind));
+        output::number(column.slots as u64);
         print::flag(column.masked);
-        print::name(lists::part(names, column.name, column.size as usize));
+        print::name(parts::bytes(names, column.name, column.size as usize));
     }
-    print::end();
+    output::end();
 }
 
 // The words of a child as they lie in memory.
@@ -33,9 +32,9 @@ fn told_words(c: Call, r: Child, values: &[u64]) {
     let slots = column.slots as usize;
     print::start(c, r.refusal);
     if r.refusal == 0 {
-        print::counted(numbers::part(values, column.values, slots));
+        print::words(parts::words(values, column.values, slots));
     }
-    print::end();
+    output::end();
 }
 
 // The first n names, each from its place.
@@ -43,7 +42,7 @@ fn each_name(places: [NamePlace; 128], n: usize, names: &[u8]) {
     for k in 0..128usize {
         if k < n {
             let place = places[k];
-            print::name(lists::part(names, place.start, place.size as usize));
+            print::name(parts::bytes(names, place.start, place.size as usize));
         }
     }
 }
@@ -53,10 +52,10 @@ fn told_names(c: Call, r: TypeNames, names: &[u8]) {
     let places = r.names;
     print::start(c, r.refusal);
     if r.refusal == 0 {
-        print::size(r.count);
+        output::size(r.count);
         each_name(places, r.count, names);
     }
-    print::end();
+    output::end();
 }
 
 // The id and the name of each of the first n columns.
@@ -64,8 +63,8 @@ fn each_field(columns: [Column; 128], n: usize, names: &[u8]) {
     for k in 0..128usize {
         if k < n {
             let column = columns[k];
-            print::size(entry_of(column.id));
-            print::name(lists::part(names, column.name, column.size as usize));
+            output::id(column.id);
+            print::name(parts::bytes(names, column.name, column.size as usize));
         }
     }
 }
@@ -74,9 +73,9 @@ fn each_field(columns: [Column; 128], n: usize, names: &[u8]) {
 fn told_fields(c: Call, a: UnionArray, names: &[u8]) {
     let columns = a.columns;
     print::start(c, 0);
-    print::size(a.fields);
+    output::size(a.fields);
     each_field(columns, a.fields, names);
-    print::end();
+    output::end();
 }
 
 // The type ids that the array shows.
@@ -95,7 +94,7 @@ fn told_ids(
     if refusal == 0 {
         print::ids(shown);
     }
-    print::end();
+    output::end();
 }
 
 // Lent memory as it lies.
@@ -103,10 +102,10 @@ fn told_lent(c: Call, ids: &[i8], offsets: &[i32], values: &[u64], masks: &[u64]
     print::start(c, 0);
     print::ids(ids);
     print::offsets(offsets);
-    print::counted(values);
-    print::counted(masks);
+    print::words(values);
+    print::words(masks);
     print::name(names);
-    print::end();
+    output::end();
 }
 
 // Calls 7 and 8: whether the array is dense, and whether it has a null.

@@ -6,11 +6,11 @@ use lib.IntN.{ℤ}
 use Rattle.bitmap.specs.Lists.{every}
 use Rattle.bitmap.proofs.Tables.{every-ext, every-all}
 use Rattle.union_array.specs.Types.{Layout, Sparse, Dense, UnionArray, byLayout}
-use Rattle.union_array.specs.Buffers.{Buffers, amountsOf}
+use Rattle.array_columns.specs.Buffers.{Buffers}
 use Rattle.union_array.specs.Slots.{offsetAt, childAt}
 use Rattle.union_array.specs.Questions.{withinChild, offsetFits, question7, question8, asked, checked}
 use Rattle.union_array.specs.Check.{onlySlots, Readable, slotsChecked}
-use Rattle.union_array.proofs.Tests.{then-left}
+use Rattle.array_columns.proofs.Tests.{then-left}
 use Rattle.union_array.proofs.Accepted.{accepted}
 
 -- 7 reads the type ids alone
@@ -44,15 +44,15 @@ module _ (a : UnionArray) (m : Buffers) where
 
   -- ---- after 1 to 6
 
-  pub checked-refused : (asked a (amountsOf m) ≡ 0 → ⊥) → asked a (amountsOf m) ≡ checked a m
+  pub checked-refused : (asked a m ≡ 0 → ⊥) → asked a m ≡ checked a m
   unfolding checked
-  checked-refused h = sym (then-left (asked a (amountsOf m)) _ h)
+  checked-refused h = sym (then-left (asked a m) _ h)
 
-  pub checked-slots : asked a (amountsOf m) ≡ 0 → slotsChecked a (onlySlots (m .ids) (m .offsets)) ≡ checked a m
+  pub checked-slots : asked a m ≡ 0 → slotsChecked a (onlySlots (m .ids) (m .offsets)) ≡ checked a m
   unfolding checked slotsChecked question7 question8
   checked-slots e = rw e
 
-  pub readable : asked a (amountsOf m) ≡ 0 → Readable a (m .ids) (m .offsets)
+  pub readable : asked a m ≡ 0 → Readable a (m .ids) (m .offsets)
   readable e =
-      let y = accepted a (amountsOf m) e in
+      let y = accepted a m e in
       record { few = y .few; valid = y .valid; ids-in = y .ids; offsets-in = y .offsets }

@@ -9,16 +9,16 @@ use lib.Dec.{T, ltb}
 use lib.IntN.{ℤ, pos, negsuc, natAbs}
 use lib.Signed.{ltZ, nonNeg}
 use Rattle.union_array.specs.Types.{Layout, Sparse, Dense, Column, UnionArray, noColumn, byLayout}
-use Rattle.union_array.specs.Buffers.{Buffers, amountsOf}
-use Rattle.union_array.specs.Refusal.{no, _then_, ifYes}
+use Rattle.array_columns.specs.Buffers.{Buffers, amountsOf}
+use Rattle.array_columns.specs.Refusal.{no, _then_, ifYes}
 use Rattle.union_array.specs.Slots.{inUse, isSome, typeIdAt, offsetAt, childAt, slotAt}
 use Rattle.union_array.specs.Questions.{within, withinChild, columnIn, asked, slotChecked}
 use Rattle.union_array.specs.Lookup.{orNone, noValue, valueIn, columnValue, valueOf, typeIdOf, valueOffsetOf}
 use Rattle.union_array.specs.Look.{Looked, lookOf}
 use Rattle.union_array.specs.ChildSlot.{ChildSlot, childSlotOf, noChildSlot, settledNo, settled}
-use Rattle.union_array.proofs.Tests.{then-left, refused-is}
+use Rattle.array_columns.proofs.Tests.{then-left, refused-is}
 use Rattle.union_array.proofs.Accepted.{Accepted, SlotAccepted, child-is, slot-accepted, slot-in}
-use Rattle.union_array.proofs.Columns.{all-found}
+use Rattle.array_columns.proofs.Columns.{all-found}
 
 -- ---- an offset that is within
 
@@ -89,17 +89,16 @@ module _ (l : Layout) (i : ℕ) (id z : ℤ) where
   same zero (some c) b = refl
 
 module _ (a : UnionArray) (m : Buffers) (i : ℕ) where
-  pub settled-is : settled (lookOf a (amountsOf m) (typeIdAt a m i)) (a .layout) (a .count) i (typeIdAt a m i) (offsetAt a m i) ≡ childSlotOf a m i
+  pub settled-is : settled (lookOf a m (typeIdAt a m i)) (a .layout) (a .count) i (typeIdAt a m i) (offsetAt a m i) ≡ childSlotOf a m i
   unfolding settled lookOf childSlotOf slotChecked
-  settled-is = same (a .layout) i (typeIdAt a m i) (offsetAt a m i) (asked a (amountsOf m)) (childAt a m i) (ltb i (a .count))
+  settled-is = same (a .layout) i (typeIdAt a m i) (offsetAt a m i) (asked a m) (childAt a m i) (ltb i (a .count))
 
   -- from what was read, looked up and settled
-  pub found-is : (id z : ℤ) (l : Looked) (s : ChildSlot) → id ≡ typeIdAt a m i → z ≡ offsetAt a m i → l ≡ lookOf a (amountsOf m) id
-      → s ≡ settled l (a .layout) (a .count) i id z → s ≡ childSlotOf a m i
-  found-is id z l s e f g h =
-      h ∙ ap (λ (x : Looked). settled x (a .layout) (a .count) i id z) g
-      ∙ ap (λ (x : ℤ). settled (lookOf a (amountsOf m) x) (a .layout) (a .count) i x z) e
-      ∙ ap (settled (lookOf a (amountsOf m) (typeIdAt a m i)) (a .layout) (a .count) i (typeIdAt a m i)) f ∙ settled-is
+  pub found-is : (id : ℤ) (l : Looked) (s : ChildSlot) → id ≡ typeIdAt a m i → l ≡ lookOf a m id
+      → s ≡ settled l (a .layout) (a .count) i id (offsetAt a m i) → s ≡ childSlotOf a m i
+  found-is id l s e g h =
+      h ∙ ap (λ (x : Looked). settled x (a .layout) (a .count) i id (offsetAt a m i)) g
+      ∙ ap (λ (x : ℤ). settled (lookOf a m x) (a .layout) (a .count) i x (offsetAt a m i)) e ∙ settled-is
 
   module _ (s : ChildSlot) (e : s ≡ childSlotOf a m i) where
     pub refusal-is : s .refusal ≡ slotChecked a m i
@@ -130,7 +129,7 @@ module _ (a : UnionArray) (m : Buffers) (i : ℕ) where
       unfolding childSlotOf
       slot-is = rw (e, checked-is)
 
-      accepts : Accepted a (amountsOf m) × SlotAccepted a m i
+      accepts : Accepted a m × SlotAccepted a m i
       accepts = slot-accepted a m i checked-is
 
       -- its child's parts lie in lent memory, and the slot is one of the child's

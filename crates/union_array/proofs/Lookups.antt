@@ -7,102 +7,77 @@ use Prim.Native.Nat.{ℕ, zero, suc, _+_, _-_, _<_}
 use lib.Dec.{eqb}
 use lib.IntN.{ℤ}
 use lib.ListN.{length, getD, set, take, drop, replicate, length-map, List·getD-map}
-use Rattle.bitmap.proofs.Tables.{both}
-use Rattle.union_array.specs.Types.{Layout, Column, UnionArray, noColumn, byLayout}
-use Rattle.union_array.specs.Buffers.{Buffers, onlyMasks, amountsOf}
-use Rattle.union_array.specs.Refusal.{no, _then_, ifYes}
+use Rattle.union_array.specs.Types.{Column, UnionArray, noColumn, byLayout}
+use Rattle.array_columns.specs.Buffers.{Buffers, onlyWords, amountsOf}
+use Rattle.array_columns.specs.Refusal.{no, _then_, ifYes}
 use Rattle.union_array.specs.Slots.{inUse, all, columnOf, isSome, present, nullsIn}
-use Rattle.union_array.specs.Questions.{asked, columnIn, maskIn}
-use Rattle.union_array.specs.Lookup.{Child, Flag, TypeNames, NamePlace, Shown, orNone, childOf, isDenseOf, isNullableOf, typeNamesOf, typeIdsOf, nameOf, noName}
+use Rattle.union_array.specs.Questions.{asked, columnIn, presenceIn}
+use Rattle.union_array.specs.Lookup.{Child, Flag, TypeNames, NamePlace, Shown, orNone, noFlag, flagBy, noTypeNames, childOf, isDenseOf, isNullableOf, typeNamesOf, typeIdsOf, nameOf, noName}
 use Rattle.union_array.specs.Look.{Looked, lookOf}
-use Rattle.union_array.proofs.Tests.{refused-is}
+use Rattle.array_columns.proofs.Tests.{refused-is}
 use Rattle.union_array.proofs.Accepted.{accepted}
-use Rattle.union_array.proofs.Values.{fill-more, inside}
-use Rattle.union_array.proofs.Columns.{all-more, all-at, take-more}
+use Rattle.array_columns.proofs.Values.{fill-more}
+use Rattle.array_columns.proofs.Present.{presence-in}
+use Rattle.array_columns.proofs.Columns.{all-less, all-more, all-at, take-more}
 
 module _ (a : UnionArray) (m : Buffers) where
   -- ---- child
 
-  module _ (id : ℤ) (l : Looked) (e : l ≡ lookOf a (amountsOf m) id) where
-    looked-refusal : l .refusal ≡ asked a (amountsOf m)
-    unfolding lookOf
-    looked-refusal = rw e
+  by-found : (q : ℕ) (o : Option Column)
+      → _≡_ {A = Child} (record { column = ifYes q (orNone o) noColumn; refusal = q then no 11 (ifYes q (isSome o) false) })
+      (record { column = ifYes (q then no 11 (isSome o)) (orNone o) noColumn; refusal = q then no 11 (isSome o) })
+  by-found zero none = refl
+  by-found zero (some c) = refl
+  by-found (suc q) o = refl
 
-    by-number : (q : ℕ) (o : Option Column) → (q ≡ 0 → ⊥)
-        → _≡_ {A = Child} (record { column = ifYes q (orNone o) noColumn; refusal = q })
-        (record { column = ifYes (q then no 11 (isSome o)) (orNone o) noColumn; refusal = q then no 11 (isSome o) })
-    by-number zero o h = absurd (h refl)
-    by-number (suc q) o h = refl
-
-    pub child-refused : (l .refusal ≡ 0 → ⊥) → _≡_ {A = Child} (record { column = l .column; refusal = l .refusal }) (childOf a m id)
-    unfolding lookOf childOf
-    child-refused h = rw e (by-number (asked a (amountsOf m)) (columnOf (inUse a) id) (λ z. h (looked-refusal ∙ z)))
-
-    by-found : (o : Option Column) (b : Bool) → isSome o ≡ b
-        → _≡_ {A = Child} (record { column = orNone o; refusal = no 11 b })
-        (record { column = ifYes (no 11 (isSome o)) (orNone o) noColumn; refusal = no 11 (isSome o) })
-    by-found none b f = rw (← f)
-    by-found (some c) b f = rw (← f)
-
-    pub child-found : (b : Bool) → l .refusal ≡ 0 → l .found ≡ b → _≡_ {A = Child} (record { column = l .column; refusal = no 11 b }) (childOf a m id)
-    unfolding lookOf childOf
-    child-found b z f =
-        let q : asked a (amountsOf m) ≡ 0 = sym looked-refusal ∙ z in
-        let g : isSome (columnOf (inUse a) id) ≡ b = rw (e, q) at f in
-        rw (e, q) (by-found (columnOf (inUse a) id) b g)
+  pub child-is : (id : ℤ) (l : Looked) (n : ℕ) → l ≡ lookOf a m id → n ≡ (l .refusal then no 11 (l .found))
+      → _≡_ {A = Child} (record { column = l .column; refusal = n }) (childOf a m id)
+  unfolding lookOf childOf
+  child-is id l n e f = rw (f, e) (by-found (asked a m) (columnOf (inUse a) id))
 
   -- ---- is_dense, is_nullable
 
-  flag-refused : (r : ℕ) (b : Bool) → (r ≡ 0 → ⊥) → _≡_ {A = Flag} (record { refusal = r; holds = false }) (record { refusal = r; holds = ifYes r b false })
-  flag-refused r b h = rw (refused-is r b false h)
+  flag-refused : (r : ℕ) (b : Bool) → r ≡ asked a m → (r ≡ 0 → ⊥) → noFlag r ≡ flagBy (asked a m) b
+  flag-refused r b e h = rw (← e, refused-is r (record { refusal = 0; holds = b }) (noFlag r) h)
 
-  pub dense-refused : (r : ℕ) → r ≡ asked a (amountsOf m) → (r ≡ 0 → ⊥) → _≡_ {A = Flag} (record { refusal = r; holds = false }) (isDenseOf a m)
+  pub dense-refused : (r : ℕ) → r ≡ asked a m → (r ≡ 0 → ⊥) → noFlag r ≡ isDenseOf a m
   unfolding isDenseOf
-  dense-refused r e h = rw (← e) (flag-refused r _ h)
+  dense-refused r e h = flag-refused r (byLayout (a .layout) false true) e h
 
-  pub dense-is : (r : ℕ) (l : Layout) → r ≡ asked a (amountsOf m) → r ≡ 0 → a .layout ≡ l
-      → _≡_ {A = Flag} (record { refusal = 0; holds = byLayout l false true }) (isDenseOf a m)
+  pub dense-is : (r : ℕ) (b : Bool) → r ≡ asked a m → r ≡ 0 → b ≡ byLayout (a .layout) false true → _≡_ {A = Flag} (record { refusal = 0; holds = b }) (isDenseOf a m)
   unfolding isDenseOf
-  dense-is r l e z f = rw (← e, z) (ap (λ (k : Layout). record { refusal = 0; holds = byLayout k false true }) (sym f))
+  dense-is r b e z f = rw (f, ← e, z)
 
-  pub nullable-refused : (r : ℕ) → r ≡ asked a (amountsOf m) → (r ≡ 0 → ⊥) → _≡_ {A = Flag} (record { refusal = r; holds = false }) (isNullableOf a m)
+  pub nullable-refused : (r : ℕ) → r ≡ asked a m → (r ≡ 0 → ⊥) → noFlag r ≡ isNullableOf a m
   unfolding isNullableOf
-  nullable-refused r e h = rw (← e) (flag-refused r _ h)
+  nullable-refused r e h = flag-refused r (not (all (λ c. eqb (nullsIn c m) 0) (inUse a))) e h
 
-  -- only the mask words matter
-  pub nullable-is : (r : ℕ) (b : Bool) → r ≡ asked a (amountsOf m) → r ≡ 0 → b ≡ not (all (λ c. eqb (nullsIn c (onlyMasks (m .masks))) 0) (inUse a))
+  pub nullable-is : (r : ℕ) (b : Bool) → r ≡ asked a m → r ≡ 0 → b ≡ not (all (λ c. eqb (nullsIn c (onlyWords (m .values) (m .masks))) 0) (inUse a))
       → _≡_ {A = Flag} (record { refusal = 0; holds = b }) (isNullableOf a m)
   unfolding isNullableOf nullsIn present
   nullable-is r b e z f = rw (f, ← e, z)
 
-  pub masks-in : asked a (amountsOf m) ≡ 0 → all (λ c. maskIn c (length (m .masks))) (inUse a) ≡ true
-  masks-in h = weaken (inUse a) (accepted a (amountsOf m) h .parts)
-    where
-      weaken : (cs : List Column) → all (columnIn (amountsOf m)) cs ≡ true → all (λ c. maskIn c (length (m .masks))) cs ≡ true
-      weaken [] e = refl
-      weaken (c ∷ cs) e =
-          let t = both (columnIn (amountsOf m) c) (all (columnIn (amountsOf m)) cs) e in
-          rw (inside (amountsOf m) c (t .0) .mask, weaken cs (t .1))
+  pub presences-in : asked a m ≡ 0 → all (presenceIn (onlyWords (m .values) (m .masks))) (inUse a) ≡ true
+  presences-in h = all-less (columnIn (amountsOf m)) (presenceIn (onlyWords (m .values) (m .masks))) (inUse a) (presence-in m) (accepted a m h .parts)
 
   -- ---- type_names
 
-  pub names-refused : (r : ℕ) → r ≡ asked a (amountsOf m) → (r ≡ 0 → ⊥)
-      → _≡_ {A = TypeNames} (record { names = replicate 128 noName; count = 0; refusal = r }) (typeNamesOf a m)
+  pub names-refused : (r : ℕ) → r ≡ asked a m → (r ≡ 0 → ⊥) → noTypeNames r ≡ typeNamesOf a m
   unfolding typeNamesOf
-  names-refused r e h = rw (← e, refused-is r (a .fields) 0 h, refused-is r (map nameOf (inUse a) ++ replicate (128 - a .fields) noName) (replicate 128 noName) h)
+  names-refused r e h = rw (← e, refused-is r _ (noTypeNames r) h)
 
-  pub names-are : (r : ℕ) (names : List NamePlace) → r ≡ asked a (amountsOf m) → r ≡ 0 → names ≡ map nameOf (inUse a) ++ replicate (128 - a .fields) noName
+  pub names-are : (r : ℕ) (names : List NamePlace) → r ≡ asked a m → r ≡ 0 → names ≡ map nameOf (inUse a) ++ replicate (128 - a .fields) noName
       → _≡_ {A = TypeNames} (record { names = names; count = a .fields; refusal = 0 }) (typeNamesOf a m)
   unfolding typeNamesOf
   names-are r names e z f = rw (f, ← e, z)
 
   -- ---- type_ids
 
-  pub ids-refused : (r : ℕ) → r ≡ asked a (amountsOf m) → (r ≡ 0 → ⊥) → _≡_ {A = Shown} (record { refusal = r; ids = [] }) (typeIdsOf a m)
+  pub ids-refused : (r : ℕ) → r ≡ asked a m → (r ≡ 0 → ⊥) → _≡_ {A = Shown} (record { refusal = r; ids = [] }) (typeIdsOf a m)
   unfolding typeIdsOf
   ids-refused r e h = rw (← e, refused-is r (take (a .count) (drop (a .start) (m .ids))) [] h)
 
-  pub ids-are : (r n : ℕ) → r ≡ asked a (amountsOf m) → r ≡ 0 → n ≡ a .count → _≡_ {A = Shown} (record { refusal = r; ids = take n (drop (a .start) (m .ids)) }) (typeIdsOf a m)
+  pub ids-are : (r n : ℕ) → r ≡ asked a m → r ≡ 0 → n ≡ a .count → _≡_ {A = Shown} (record { refusal = r; ids = take n (drop (a .start) (m .ids)) }) (typeIdsOf a m)
   unfolding typeIdsOf
   ids-are r n e z f = rw (← e, z, f)
 

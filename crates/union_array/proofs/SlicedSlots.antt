@@ -9,18 +9,18 @@ use native.Mathlib.Omega.{arith}
 use borrow.Author.Tests.{le-leb, eqb-true, eq-eqb, lt-ltb}
 use lib.Dec.{eqb, leb}
 use lib.IntN.{ℤ, pos, natAbs}
-use lib.ListN.{getD, take, drop}
+use lib.ListN.{length, getD, take, drop}
 use Rattle.bitmap.specs.Bits.{bitAt, sameId}
 use Rattle.bitmap.proofs.Tables.{both}
 use Rattle.union_array.specs.Types.{Layout, Sparse, Dense, Column, UnionArray, Amounts, byLayout}
-use Rattle.union_array.specs.Buffers.{Buffers, amountsOf}
-use Rattle.union_array.specs.Refusal.{no, _then_, ifYes}
+use Rattle.array_columns.specs.Buffers.{Buffers, amountsOf}
+use Rattle.array_columns.specs.Refusal.{no, _then_, ifYes}
 use Rattle.union_array.specs.Slots.{inUse, all, columnOf, isSome, typeIdAt, offsetAt, childAt, present, nullIn, slotNull}
 use Rattle.union_array.specs.Questions.{validId, distinct, partIn, maskIn, columnIn, question1, question2, question3, question4, question5, question6, withinChild, asked, slotChecked}
 use Rattle.union_array.specs.Lookup.{Value, columnValue, valueIn, noValue, valueOf}
 use Rattle.union_array.specs.Slices.{movedColumn, sliced}
-use Rattle.union_array.proofs.Accepted.{Accepted, accepted, mask-part}
-use Rattle.union_array.proofs.Values.{inside}
+use Rattle.union_array.proofs.Accepted.{Accepted, all-yes, accepted, mask-part}
+use Rattle.array_columns.proofs.Values.{inside}
 
 -- ---- moved columns
 
@@ -96,13 +96,13 @@ sliced-count a o n = refl
 
 -- ---- a slice is accepted
 
-module _ (a : UnionArray) (lent : Amounts) (o n : ℕ) (y : Accepted a lent) (h : o + n ≤ a .count) where
-  columns-moved : (l : Layout) → a .layout ≡ l → all (columnIn lent) (map (movedColumn l o n) (inUse a)) ≡ true
-  columns-moved Dense e = all-map (columnIn lent) (columnIn lent) (movedColumn Dense o n) (inUse a) (λ c p. p) (y .parts)
+module _ (a : UnionArray) (m : Buffers) (o n : ℕ) (y : Accepted a m) (h : o + n ≤ a .count) where
+  columns-moved : (l : Layout) → a .layout ≡ l → all (columnIn (amountsOf m)) (map (movedColumn l o n) (inUse a)) ≡ true
+  columns-moved Dense e = all-map (columnIn (amountsOf m)) (columnIn (amountsOf m)) (movedColumn Dense o n) (inUse a) (λ c p. p) (y .parts)
   columns-moved Sparse e =
-      all-map (columnIn lent) (λ c. columnIn lent c && eqb (c .slots) (a .count)) (movedColumn Sparse o n) (inUse a)
-      (λ c p. let t = both (columnIn lent c) (eqb (c .slots) (a .count)) p in part-moved o n (a .count) lent c h (eqb-true (c .slots) (a .count) (t .1)) (t .0))
-      (all-both (columnIn lent) (λ c. eqb (c .slots) (a .count)) (inUse a) (y .parts) (y .equal e))
+      all-map (columnIn (amountsOf m)) (λ c. columnIn (amountsOf m) c && eqb (c .slots) (a .count)) (movedColumn Sparse o n) (inUse a)
+      (λ c p. let t = both (columnIn (amountsOf m) c) (eqb (c .slots) (a .count)) p in part-moved o n (a .count) (amountsOf m) c h (eqb-true (c .slots) (a .count) (t .1)) (t .0))
+      (all-both (columnIn (amountsOf m)) (λ c. eqb (c .slots) (a .count)) (inUse a) (y .parts) (y .equal e))
 
   slots-moved : (l : Layout) → all (λ c. leb (c .slots) 65536) (map (movedColumn l o n) (inUse a)) ≡ true
   slots-moved Dense = all-map (λ c. leb (c .slots) 65536) (λ c. leb (c .slots) 65536) (movedColumn Dense o n) (inUse a) (λ c p. p) (y .slots)
@@ -115,9 +115,9 @@ module _ (a : UnionArray) (lent : Amounts) (o n : ℕ) (y : Accepted a lent) (h 
   equal-moved Sparse = all-map (λ c. eqb (c .slots) n) (λ c. leb (c .slots) 65536) (movedColumn Sparse o n) (inUse a) (λ c p. eq-eqb n n refl) (y .slots)
 
   offsets-moved : (l : Layout) → a .layout ≡ l
-      → byLayout l true (partIn (byLayout l (a .«offsets_start») (a .«offsets_start» + o)) (byLayout l (a .«offsets_count») n) (lent .offsets)) ≡ true
+      → byLayout l true (partIn (byLayout l (a .«offsets_start») (a .«offsets_start» + o)) (byLayout l (a .«offsets_count») n) (length (m .offsets))) ≡ true
   offsets-moved Sparse e = refl
-  offsets-moved Dense e = le-leb (a .«offsets_start» + o + n) (lent .offsets) (omega (arith, y .offsets e))
+  offsets-moved Dense e = le-leb (a .«offsets_start» + o + n) (length (m .offsets)) (omega (arith, y .offsets e))
 
   count-moved : (l : Layout) → byLayout l true (eqb (byLayout l (a .«offsets_count») n) n) ≡ true
   count-moved Sparse = refl
@@ -133,11 +133,11 @@ module _ (a : UnionArray) (lent : Amounts) (o n : ℕ) (y : Accepted a lent) (h 
   unfolding sliced
   two = eq-eqb (a .children) (a .fields) (y .children)
 
-  three : question3 (sliced a o n) lent ≡ true
+  three : question3 (sliced a o n) (amountsOf m) ≡ true
   unfolding sliced question3
   three =
       let w = y .ids in
-      rw (in-use-sliced a o n, le-leb (a .start + o + n) (lent .ids) (omega arith), offsets-moved (a .layout) refl, columns-moved (a .layout) refl)
+      rw (in-use-sliced a o n, le-leb (a .start + o + n) (length (m .ids)) (omega arith), offsets-moved (a .layout) refl, columns-moved (a .layout) refl)
 
   four : question4 (sliced a o n) ≡ true
   unfolding sliced question4
@@ -151,9 +151,8 @@ module _ (a : UnionArray) (lent : Amounts) (o n : ℕ) (y : Accepted a lent) (h 
   unfolding sliced question6
   six = rw (in-use-sliced a o n) (equal-moved (a .layout))
 
-  pub sliced-asked : asked (sliced a o n) lent ≡ 0
-  unfolding asked
-  sliced-asked = rw (one, two, three, four, five, six)
+  pub sliced-asked : asked (sliced a o n) m ≡ 0
+  sliced-asked = all-yes (sliced a o n) m (record { q1 = one; q2 = two; q3 = three; q4 = four; q5 = five; q6 = six })
 
 -- ---- a slot of a slice
 
@@ -165,11 +164,11 @@ slotAsked l c z = no 7 (isSome c) then no 8 (byLayout l true (withinChild z c))
 abbrev pub told : Layout → Buffers → Option Column → ℤ → ℕ → Value
 told l m c z i = ifYes (slotAsked l c z) (valueIn c m (byLayout l i (natAbs z))) (noValue (slotAsked l c z))
 
-pub slot-asked : (a : UnionArray) (m : Buffers) (i : ℕ) → asked a (amountsOf m) ≡ 0 → i < a .count → slotChecked a m i ≡ slotAsked (a .layout) (childAt a m i) (offsetAt a m i)
+pub slot-asked : (a : UnionArray) (m : Buffers) (i : ℕ) → asked a m ≡ 0 → i < a .count → slotChecked a m i ≡ slotAsked (a .layout) (childAt a m i) (offsetAt a m i)
 unfolding slotChecked
 slot-asked a m i e h = rw (e, lt-ltb i (a .count) h)
 
-pub value-told : (a : UnionArray) (m : Buffers) (i : ℕ) → asked a (amountsOf m) ≡ 0 → i < a .count → valueOf a m i ≡ told (a .layout) m (childAt a m i) (offsetAt a m i) i
+pub value-told : (a : UnionArray) (m : Buffers) (i : ℕ) → asked a m ≡ 0 → i < a .count → valueOf a m i ≡ told (a .layout) m (childAt a m i) (offsetAt a m i) i
 unfolding valueOf
 value-told a m i e h = rw (slot-asked a m i e h)
 
@@ -232,11 +231,11 @@ module _ (a : UnionArray) (m : Buffers) (o n i : ℕ) where
       ∙ null-offset (a .layout) m (mapOption (movedColumn (a .layout) o n) (childAt a m (o + i))) (a .«offsets_start») o i i
       ∙ null-moved (a .layout) m o n i (childAt a m (o + i)) (offsetAt a m (o + i))
 
-  pub sliced-value : asked a (amountsOf m) ≡ 0 → o + n ≤ a .count → i < n → valueOf (sliced a o n) m i ≡ valueOf a m (o + i)
+  pub sliced-value : asked a m ≡ 0 → o + n ≤ a .count → i < n → valueOf (sliced a o n) m i ≡ valueOf a m (o + i)
   unfolding sliced
   sliced-value e h q =
       let w : o + i < a .count = omega arith in
-      value-told (sliced a o n) m i (sliced-asked a (amountsOf m) o n (accepted a (amountsOf m) e) h) q
+      value-told (sliced a o n) m i (sliced-asked a m o n (accepted a m e) h) q
       ∙ ap (λ (c : Option Column). told (a .layout) m c (offsetAt (sliced a o n) m i) i) child-sliced
       ∙ offset-moved (a .layout) m (mapOption (movedColumn (a .layout) o n) (childAt a m (o + i))) (a .«offsets_start») o i i
       ∙ told-moved (a .layout) m o n i (childAt a m (o + i)) (offsetAt a m (o + i)) ∙ sym (value-told a m (o + i) e w)

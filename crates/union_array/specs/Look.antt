@@ -2,8 +2,9 @@
 use mathlib.Core.Bool.{false}
 use Prim.Native.Nat.{ℕ}
 use lib.IntN.{ℤ}
-use Rattle.union_array.specs.Types.{UnionArray, Amounts, noColumn}
-use Rattle.union_array.specs.Refusal.{ifYes}
+use Rattle.union_array.specs.Types.{UnionArray, noColumn}
+use Rattle.array_columns.specs.Buffers.{Buffers}
+use Rattle.array_columns.specs.Refusal.{ifYes}
 use Rattle.union_array.specs.Slots.{inUse, columnOf, isSome}
 use Rattle.union_array.specs.Questions.{asked}
 use Rattle.union_array.specs.Lookup.{orNone}
@@ -13,10 +14,14 @@ pub use Rattle.union_array.specs.declared.Looked.{Looked}
 abbrev pub notLooked : ℕ → Looked
 notLooked n = record { column = noColumn; refusal = n; found = false }
 
--- the first no of 1 to 6; of an accepted array the column with an id, and whether there is one
-unfoldable pub lookOf : UnionArray → Amounts → ℤ → Looked
-lookOf a lent id = record {
-  column = ifYes (asked a lent) (orNone (columnOf (inUse a) id)) noColumn;
-  refusal = asked a lent;
-  found = ifYes (asked a lent) (isSome (columnOf (inUse a) id)) false;
+-- by a refusal's number: of an accepted array the column with an id, and whether there is one
+abbrev pub lookedBy : UnionArray → ℤ → ℕ → Looked
+lookedBy a id n = record {
+  column = ifYes n (orNone (columnOf (inUse a) id)) noColumn;
+  refusal = n;
+  found = ifYes n (isSome (columnOf (inUse a) id)) false;
 }
+
+-- the first no of 1 to 6, and the column with an id
+unfoldable pub lookOf : UnionArray → Buffers → ℤ → Looked
+lookOf a m id = lookedBy a id (asked a m)

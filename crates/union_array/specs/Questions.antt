@@ -1,25 +1,15 @@
 -- Questions 1 to 11 of document 01, each as a test, with 01's sentence above it.
-use mathlib.Core.Bool.{Bool, true, false, not, _&&_, _||_}
-use mathlib.Core.Option.{Option, none, some}
-use mathlib.Core.List.{List, [], _∷_}
-use Prim.Native.Nat.{ℕ, _+_, _*_}
+use mathlib.Core.Bool.{Bool, true, _&&_}
+use Prim.Native.Nat.{ℕ, _+_}
 use lib.Dec.{eqb, leb, ltb}
-use lib.IntN.{ℤ, pos, negsuc}
+use lib.IntN.{ℤ}
 use Rattle.bitmap.specs.Lists.{every}
-use Rattle.union_array.specs.Types.{Column, UnionArray, Amounts, firstBit, byLayout}
-use Rattle.union_array.specs.Buffers.{Buffers, amountsOf}
-use Rattle.union_array.specs.Refusal.{no, _then_}
+use Rattle.union_array.specs.Types.{UnionArray, Amounts, byLayout}
+use Rattle.array_columns.specs.Buffers.{Buffers, amountsOf}
+use Rattle.array_columns.specs.Refusal.{no, _then_}
 use Rattle.union_array.specs.Slots.{inUse, all, columnOf, isSome, offsetAt, childAt}
-
--- a field id is 0 to 127
-abbrev pub validId : ℤ → Bool
-validId (pos n) = ltb n 128
-validId (negsuc n) = false
-
--- no id twice
-abbrev pub distinct : List Column → Bool
-distinct [] = true
-distinct (c ∷ cs) = not (isSome (columnOf cs (c .id))) && distinct cs
+pub use Rattle.array_columns.specs.Questions.{validId, distinct, partIn, maskIn, within, withinChild}
+unfoldable pub use Rattle.array_columns.specs.Questions.{presenceIn, columnIn}
 
 -- 1. At most 128 fields, ids 0 to 127, none twice?
 unfoldable pub question1 : UnionArray → Bool
@@ -28,19 +18,6 @@ question1 a = leb (a .fields) 128 && (all (λ c. validId (c .id)) (inUse a) && d
 -- 2. As many children as fields?
 abbrev pub question2 : UnionArray → Bool
 question2 a = eqb (a .children) (a .fields)
-
--- "Start plus length is at most what is lent, for an empty part too"
-abbrev pub partIn : ℕ → ℕ → ℕ → Bool
-partIn start len lent = leb (start + len) lent
-
--- "an absent mask names no part"
-abbrev pub maskIn : Column → ℕ → Bool
-maskIn c lent = not (c .masked) || partIn (firstBit c) (c .slots) (64 * lent)
-
--- a column's name, values and mask lie in lent memory, its name at most 32 bytes
-unfoldable pub columnIn : Amounts → Column → Bool
-columnIn lent c =
-    leb (c .size) 32 && (partIn (c .name) (c .size) (lent .names) && (partIn (c .values) (c .slots) (lent .values) && maskIn c (lent .masks)))
 
 -- 3. Do all named parts lie in lent memory, names at most 32 bytes? ("a sparse one names no offsets")
 unfoldable pub question3 : UnionArray → Amounts → Bool
@@ -68,16 +45,6 @@ namedAt a m i = isSome (childAt a m i)
 unfoldable pub question7 : UnionArray → Buffers → Bool
 question7 a m = every (a .count) (namedAt a m)
 
--- an offset is at least 0 and below n
-abbrev pub within : ℤ → ℕ → Bool
-within (pos k) n = ltb k n
-within (negsuc k) n = false
-
--- an offset is at least 0 and below the slots of the child found
-abbrev pub withinChild : ℤ → Option Column → Bool
-withinChild z none = false
-withinChild z (some c) = within z (c .slots)
-
 -- slot i's offset, if dense, is at least 0 and below its child's slots
 abbrev pub offsetFits : UnionArray → Buffers → ℕ → Bool
 offsetFits a m i = byLayout (a .layout) true (withinChild (offsetAt a m i) (childAt a m i))
@@ -99,19 +66,19 @@ abbrev pub question11 : UnionArray → ℤ → Bool
 question11 a id = isSome (columnOf (inUse a) id)
 
 -- "Every call on a batch asks 1 to 6"
-unfoldable pub asked : UnionArray → Amounts → ℕ
-asked a lent =
+unfoldable pub asked : UnionArray → Buffers → ℕ
+asked a m =
     no 1 (question1 a)
     then no 2 (question2 a)
-    then no 3 (question3 a lent)
+    then no 3 (question3 a (amountsOf m))
     then no 4 (question4 a)
     then no 5 (question5 a)
     then no 6 (question6 a)
 
 -- 1 to 6, then 7 and 8 of every slot
 unfoldable pub checked : UnionArray → Buffers → ℕ
-checked a m = asked a (amountsOf m) then no 7 (question7 a m) then no 8 (question8 a m)
+checked a m = asked a m then no 7 (question7 a m) then no 8 (question8 a m)
 
 -- "a slot lookup (value, type_id, value_offset) then 10, and 7 and 8 for its slot only"
 unfoldable pub slotChecked : UnionArray → Buffers → ℕ → ℕ
-slotChecked a m i = asked a (amountsOf m) then no 10 (question10 a i) then no 7 (namedAt a m i) then no 8 (offsetFits a m i)
+slotChecked a m i = asked a m then no 10 (question10 a i) then no 7 (namedAt a m i) then no 8 (offsetFits a m i)

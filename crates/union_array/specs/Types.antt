@@ -1,63 +1,19 @@
--- The declared types, and what document 01 says of their cases.
-use mathlib.Core.Bool.{Bool, false}
-use Prim.Native.Nat.{ℕ, _+_, _*_, _%_, _^_}
-use lib.Dec.{eqb}
-use lib.IntN.{pos}
+-- The array, beside the types of its columns (array_columns).
+use mathlib.Core.List.{List}
+use Prim.Native.Nat.{ℕ, _+_}
 use lib.ListN.{replicate}
-pub use Rattle.union_array.specs.declared.Kind.{Kind}
-pub use Rattle.union_array.specs.declared.Kind.the-variants.{Int8, Int16, Int32, Int64, UInt8, UInt16, UInt32, UInt64, Float32, Float64}
-pub use Rattle.union_array.specs.declared.Layout.{Layout}
-pub use Rattle.union_array.specs.declared.Layout.the-variants.{Sparse, Dense}
-pub use Rattle.union_array.specs.declared.Column.{Column}
 pub use Rattle.union_array.specs.declared.UnionArray.{UnionArray}
-pub use Rattle.union_array.specs.declared.Amounts.{Amounts}
+pub use Rattle.array_columns.specs.declared.Kind.{Kind}
+pub use Rattle.array_columns.specs.declared.Kind.the-variants.{Int8, Int16, Int32, Int64, UInt8, UInt16, UInt32, UInt64, Float32, Float64}
+pub use Rattle.array_columns.specs.declared.Layout.{Layout}
+pub use Rattle.array_columns.specs.declared.Layout.the-variants.{Sparse, Dense}
+pub use Rattle.array_columns.specs.declared.Column.{Column}
+pub use Rattle.array_columns.specs.declared.Amounts.{Amounts}
+pub use Rattle.array_columns.specs.declared.Head.{Head}
+pub use Rattle.array_columns.specs.Types.{kindNumber, sameKind, widthOf, byLayout, noColumn, withSlots, firstBit}
+unfoldable pub use Rattle.array_columns.specs.Types.{lowBits}
 
--- the kinds in 01's order, "Int8 to Int64, UInt8 to UInt64, Float32, Float64"
-abbrev pub kindNumber : Kind → ℕ
-kindNumber Int8 = 0
-kindNumber Int16 = 1
-kindNumber Int32 = 2
-kindNumber Int64 = 3
-kindNumber UInt8 = 4
-kindNumber UInt16 = 5
-kindNumber UInt32 = 6
-kindNumber UInt64 = 7
-kindNumber Float32 = 8
-kindNumber Float64 = 9
-
--- two kinds are the same
-abbrev pub sameKind : Kind → Kind → Bool
-sameKind a b = eqb (kindNumber a) (kindNumber b)
-
--- the bits of a value of the kind
-abbrev pub widthOf : Kind → ℕ
-widthOf Int8 = 8
-widthOf Int16 = 16
-widthOf Int32 = 32
-widthOf Int64 = 64
-widthOf UInt8 = 8
-widthOf UInt16 = 16
-widthOf UInt32 = 32
-widthOf UInt64 = 64
-widthOf Float32 = 32
-widthOf Float64 = 64
-
--- "its low bits are the value, and lookup answers, and append stores, zeros above them", for a width of w bits
-unfoldable pub lowBits : ℕ → ℕ → ℕ
-lowBits w x = x % 2 ^ w
-
--- one thing for sparse, another for dense
-abbrev pub byLayout {ℓ} : {A : Type ℓ} → Layout → A → A → A
-byLayout Sparse s d = s
-byLayout Dense s d = d
-
--- the column of zeros
-abbrev pub noColumn : Column
-noColumn = record { values = 0; mask = 0; name = 0; slots = 0; bit = 0; size = 0; id = pos 0; kind = Int8; masked = false }
-
--- "first mask bit", held as a word and a bit of it
-abbrev pub firstBit : Column → ℕ
-firstBit c = 64 * c .mask + c .bit
+-- ---- an array, and all that lists its fields
 
 -- the empty description, of no fields and no slots
 abbrev pub noArray : UnionArray
@@ -71,3 +27,45 @@ noArray = record {
   «offsets_count» = 0;
   layout = Sparse;
 }
+
+-- "moves the start of type ids by o and sets count n; dense moves the offsets too"; the columns as they are
+abbrev pub narrowed : Layout → ℕ → ℕ → UnionArray → UnionArray
+narrowed l o n a = record {
+  columns = a .columns;
+  fields = a .fields;
+  children = a .children;
+  start = a .start + o;
+  count = n;
+  «offsets_start» = byLayout l (a .«offsets_start») (a .«offsets_start» + o);
+  «offsets_count» = byLayout l (a .«offsets_count») n;
+  layout = a .layout;
+}
+
+-- an array but for its columns
+abbrev pub headOf : UnionArray → Head
+headOf a = record {
+  fields = a .fields;
+  children = a .children;
+  start = a .start;
+  count = a .count;
+  «offsets_start» = a .«offsets_start»;
+  «offsets_count» = a .«offsets_count»;
+  layout = a .layout;
+}
+
+-- the array of a head and a column list
+abbrev pub arrayOf : Head → List Column → UnionArray
+arrayOf h columns = record {
+  columns = columns;
+  fields = h .fields;
+  children = h .children;
+  start = h .start;
+  count = h .count;
+  «offsets_start» = h .«offsets_start»;
+  «offsets_count» = h .«offsets_count»;
+  layout = h .layout;
+}
+
+-- the array with another list of columns
+abbrev pub relisted : UnionArray → List Column → UnionArray
+relisted a columns = arrayOf (headOf a) columns

@@ -3,30 +3,20 @@ ghost use mathlib.Core.Path.{_≡_};
 ghost use mathlib.Core.Bool.{true};
 ghost use mathlib.Core.List.{[]};
 ghost use Prim.Native.Nat.{_+_, _≤_};
-ghost use lib.ListN.{length, take};
+ghost use lib.ListN.{length};
 ghost use Rattle.bitmap.specs.Lists.{every};
 ghost use Rattle.union_array.specs.Types.{Dense};
-ghost use Rattle.union_array.specs.Buffers.{buffersOf};
+ghost use Rattle.array_columns.specs.Buffers.{buffersOf};
 ghost use Rattle.union_array.specs.Slots.{offsetAt, childAt, inUse, all};
-ghost use Rattle.union_array.specs.Questions.{validId, within, withinChild, question7, checked};
+ghost use Rattle.union_array.specs.Questions.{validId, withinChild, question7, checked};
 ghost use Rattle.union_array.specs.Lookup.{tryNewOf};
-ghost use Rattle.union_array.specs.Check.{onlySlots, Readable, slotTable, slotsChecked};
-use crate::Amounts;
-use crate::Column;
-use crate::Layout;
+ghost use Rattle.union_array.specs.Check.{onlySlots, Readable, slotsChecked};
 use crate::UnionArray;
 use crate::questions::ask;
-use crate::questions::entry_of;
-
-// An offset is at least 0 and below n.
-pub fn is_within(x: i32, n: u32) -> bool
-    ensures { λ r. ⌜ r ≡ within x n ⌝ }
-{
-    if x < 0 {
-        return false;
-    }
-    (x as u32) < n
-}
+use array_columns::Layout;
+use array_columns::questions::entry_of;
+use array_columns::slots::is_within;
+use array_columns::slots::slots_by_id;
 
 // 7. Does each type id name a field? The first slot that matches no field ends the whole check. An id that was matched before is known.
 fn ids_named(a: UnionArray, type_ids: &[i8]) -> bool
@@ -59,21 +49,6 @@ fn ids_named(a: UnionArray, type_ids: &[i8]) -> bool
         i += 1;
     }
     ok
-}
-
-// The slot counts of the first `fields` columns, by their ids.
-fn slots_by_id(columns: [Column; 128], fields: usize) -> [u32; 256]
-    requires { ⌜ fields ≤ 128 ⌝ }
-    ensures { λ r. ⌜ r ≡ slotTable (take fields columns) ⌝ }
-{
-    let mut table = [0u32; 256];
-    let mut j = fields;
-    while 0 < j {
-        j -= 1;
-        let c = columns[j];
-        table[entry_of(c.id)] = c.slots;
-    }
-    table
 }
 
 // 8. Of a dense array: each offset at least 0 and below its child's slots?
@@ -126,14 +101,7 @@ pub fn check(
 ) -> u8
     ensures { λ r. ⌜ r ≡ checked a (buffersOf (now («type_ids» .entry)) (now (offsets .entry)) (now (values .entry)) (now (masks .entry)) (now (names .entry))) ⌝ }
 {
-    let lent = Amounts {
-        ids: type_ids.len(),
-        offsets: offsets.len(),
-        values: values.len(),
-        masks: masks.len(),
-        names: names.len(),
-    };
-    let r = ask(a, lent);
+    let r = ask(a, type_ids, offsets, values, masks, names);
     if r != 0 {
         return r;
     }

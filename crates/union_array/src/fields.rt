@@ -4,31 +4,30 @@ ghost use mathlib.Core.Bool.{true, not};
 ghost use mathlib.Core.List.{_++_, map};
 ghost use Prim.Native.Nat.{_-_, _≤_};
 ghost use lib.Dec.{eqb};
-ghost use lib.ListN.{length, take, replicate};
-ghost use Rattle.union_array.specs.Buffers.{buffersOf, onlyMasks};
+ghost use lib.ListN.{take, replicate};
+ghost use Rattle.array_columns.specs.Buffers.{buffersOf, onlyWords};
+ghost use Rattle.array_columns.specs.Refusal.{no, _then_};
 ghost use Rattle.union_array.specs.Slots.{all, nullsIn};
-ghost use Rattle.union_array.specs.Questions.{maskIn};
-ghost use Rattle.union_array.specs.Lookup.{childOf, typeNamesOf, isDenseOf, isNullableOf, typeIdsOf, nameOf, noName};
-use crate::Amounts;
+ghost use Rattle.union_array.specs.Questions.{presenceIn};
+ghost use Rattle.union_array.specs.Lookup.{childOf, typeNamesOf, isDenseOf, isNullableOf, typeIdsOf, nameOf, noName, noFlag, noTypeNames};
 use crate::Child;
-use crate::Column;
 use crate::Flag;
-use crate::Layout;
 use crate::NamePlace;
 use crate::TypeNames;
 use crate::UnionArray;
-use crate::presence;
 use crate::questions;
+use array_columns::Column;
+use array_columns::presence;
 
 // Whether one of the first `fields` columns has a null.
-fn any_null(columns: [Column; 128], fields: usize, masks: &[u64]) -> bool
-    requires { ⌜ (fields ≤ 128) × (all (λ c. maskIn c (length (now masks))) (take fields columns) ≡ true) ⌝ }
-    ensures { λ r. ⌜ r ≡ not (all (λ c. eqb (nullsIn c (onlyMasks (now (masks .entry)))) 0) (take fields columns)) ⌝ }
+fn any_null(columns: [Column; 128], fields: usize, values: &[u64], masks: &[u64]) -> bool
+    requires { ⌜ (fields ≤ 128) × (all (presenceIn (onlyWords (now values) (now masks))) (take fields columns) ≡ true) ⌝ }
+    ensures { λ r. ⌜ r ≡ not (all (λ c. eqb (nullsIn c (onlyWords (now (values .entry)) (now (masks .entry)))) 0) (take fields columns)) ⌝ }
 {
     let mut j: usize = 0;
     while j < fields {
         let c = columns[j];
-        let n = presence::null_count(c, masks);
+        let n = presence::null_count(c, values, masks);
         if n.nulls != 0 {
             return true;
         }
@@ -55,6 +54,40 @@ fn names_of(columns: [Column; 128], fields: usize) -> [NamePlace; 128]
     names
 }
 
+// 11, once 1 to 6 are asked: does the given id name a field?
+fn child_checked(refusal: u8, found: bool) -> u8
+    ensures { λ r. ⌜ r ≡ (refusal then no 11 found) ⌝ }
+{
+    if refusal != 0 {
+        return refusal;
+    }
+    if found {
+        return 0;
+    }
+    11
+}
+
+// A refused flag's answer.
+fn no_flag(refusal: u8) -> Flag
+    ensures { λ r. ⌜ r ≡ noFlag refusal ⌝ }
+{
+    Flag {
+        refusal,
+        holds: false,
+    }
+}
+
+// The answer of refused names.
+fn no_type_names(refusal: u8) -> TypeNames
+    ensures { λ r. ⌜ r ≡ noTypeNames refusal ⌝ }
+{
+    TypeNames {
+        names: [NamePlace { start: 0, size: 0 }; 128],
+        count: 0,
+        refusal,
+    }
+}
+
 impl UnionArray {
     // The column with an id.
     pub fn child(
@@ -68,30 +101,11 @@ impl UnionArray {
     ) -> Child
         ensures { λ r. ⌜ r ≡ childOf self (buffersOf (now («type_ids» .entry)) (now (offsets .entry)) (now (values .entry)) (now (masks .entry)) (now (names .entry))) id ⌝ }
     {
-        let lent = Amounts {
-            ids: type_ids.len(),
-            offsets: offsets.len(),
-            values: values.len(),
-            masks: masks.len(),
-            names: names.len(),
-        };
-        let l = questions::look(self, lent, id);
+        let l = questions::look(self, id, type_ids, offsets, values, masks, names);
         let c = l.column;
-        if l.refusal != 0 {
-            return Child {
-                column: c,
-                refusal: l.refusal,
-            };
-        }
-        if !l.found {
-            return Child {
-                column: c,
-                refusal: 11,
-            };
-        }
         Child {
             column: c,
-            refusal: 0,
+            refusal: child_checked(l.refusal, l.found),
         }
     }
 
@@ -106,20 +120,9 @@ impl UnionArray {
     ) -> TypeNames
         ensures { λ r. ⌜ r ≡ typeNamesOf self (buffersOf (now («type_ids» .entry)) (now (offsets .entry)) (now (values .entry)) (now (masks .entry)) (now (names .entry))) ⌝ }
     {
-        let lent = Amounts {
-            ids: type_ids.len(),
-            offsets: offsets.len(),
-            values: values.len(),
-            masks: masks.len(),
-            names: names.len(),
-        };
-        let r = questions::ask(self, lent);
+        let r = questions::ask(self, type_ids, offsets, values, masks, names);
         if r != 0 {
-            return TypeNames {
-                names: [NamePlace { start: 0, size: 0 }; 128],
-                count: 0,
-                refusal: r,
-            };
+            return no_type_names(r);
         }
         let columns = self.columns;
         TypeNames {
@@ -141,14 +144,7 @@ impl UnionArray {
     ) -> &'a [i8]
         ensures { λ r. ⌜ record { refusal = now (refusal .exit); ids = now r } ≡ typeIdsOf self (buffersOf (now («type_ids» .entry)) (now (offsets .entry)) (now (values .entry)) (now (masks .entry)) (now (names .entry))) ⌝ }
     {
-        let lent = Amounts {
-            ids: type_ids.len(),
-            offsets: offsets.len(),
-            values: values.len(),
-            masks: masks.len(),
-            names: names.len(),
-        };
-        let r = questions::ask(self, lent);
+        let r = questions::ask(self, type_ids, offsets, values, masks, names);
         *refusal = r;
         if r != 0 {
             return &type_ids[0..0];
@@ -169,30 +165,14 @@ impl UnionArray {
     ) -> Flag
         ensures { λ r. ⌜ r ≡ isDenseOf self (buffersOf (now («type_ids» .entry)) (now (offsets .entry)) (now (values .entry)) (now (masks .entry)) (now (names .entry))) ⌝ }
     {
-        let lent = Amounts {
-            ids: type_ids.len(),
-            offsets: offsets.len(),
-            values: values.len(),
-            masks: masks.len(),
-            names: names.len(),
-        };
-        let n = questions::ask(self, lent);
+        let n = questions::ask(self, type_ids, offsets, values, masks, names);
         if n != 0 {
-            return Flag {
-                refusal: n,
-                holds: false,
-            };
+            return no_flag(n);
         }
         let layout = self.layout;
-        match layout {
-            Layout::Sparse => Flag {
-                refusal: 0,
-                holds: false,
-            },
-            Layout::Dense => Flag {
-                refusal: 0,
-                holds: true,
-            },
+        Flag {
+            refusal: 0,
+            holds: array_columns::questions::is_dense(layout),
         }
     }
 
@@ -207,24 +187,14 @@ impl UnionArray {
     ) -> Flag
         ensures { λ r. ⌜ r ≡ isNullableOf self (buffersOf (now («type_ids» .entry)) (now (offsets .entry)) (now (values .entry)) (now (masks .entry)) (now (names .entry))) ⌝ }
     {
-        let lent = Amounts {
-            ids: type_ids.len(),
-            offsets: offsets.len(),
-            values: values.len(),
-            masks: masks.len(),
-            names: names.len(),
-        };
-        let refusal = questions::ask(self, lent);
-        if refusal != 0 {
-            return Flag {
-                refusal,
-                holds: false,
-            };
+        let r = questions::ask(self, type_ids, offsets, values, masks, names);
+        if r != 0 {
+            return no_flag(r);
         }
         let columns = self.columns;
         Flag {
             refusal: 0,
-            holds: any_null(columns, self.fields, masks),
+            holds: any_null(columns, self.fields, values, masks),
         }
     }
 }

@@ -1,48 +1,13 @@
 // The union array: a description by value over lent memory.
 pub mod check;
-pub mod child_value;
 mod fields;
-pub mod kinds;
 mod lookup;
-pub mod presence;
 pub mod questions;
+mod run;
 pub mod slices;
 
-// The kind of a column's values. One word holds one value, in its low bits.
-pub enum Kind {
-    Int8,
-    Int16,
-    Int32,
-    Int64,
-    UInt8,
-    UInt16,
-    UInt32,
-    UInt64,
-    Float32,
-    Float64,
-}
-
-pub enum Layout {
-    Sparse,
-    Dense,
-}
-
-// One entry of the column list: a field and its child.
-pub struct Column {
-    // The first value word.
-    pub values: usize,
-    // The mask word that has the first mask bit, and its bit in that word.
-    pub mask: usize,
-    // The first name byte.
-    pub name: usize,
-    pub slots: u32,
-    pub bit: u8,
-    // The name's length in bytes.
-    pub size: u8,
-    pub id: i8,
-    pub kind: Kind,
-    pub masked: bool,
-}
+use array_columns::Column;
+use array_columns::Layout;
 
 // A union array: its column list, and the parts of the lent type ids and offsets that are its own.
 pub struct UnionArray {
@@ -54,26 +19,6 @@ pub struct UnionArray {
     pub offsets_start: usize,
     pub offsets_count: usize,
     pub layout: Layout,
-}
-
-// How much is lent: type ids, offsets, value words, mask words, name bytes.
-pub struct Amounts {
-    pub ids: usize,
-    pub offsets: usize,
-    pub values: usize,
-    pub masks: usize,
-    pub names: usize,
-}
-
-// What `value` answers.
-pub struct Value {
-    pub bits: u64,
-    pub name: [u8; 32],
-    pub size: u8,
-    pub refusal: u8,
-    pub id: i8,
-    pub kind: Kind,
-    pub missing: bool,
 }
 
 // What `type_id` answers.
@@ -123,24 +68,6 @@ pub struct Slice {
 pub(crate) struct Looked {
     pub column: Column,
     pub refusal: u8,
-    pub found: bool,
-}
-
-// An array but for its columns.
-pub(crate) struct Head {
-    pub fields: usize,
-    pub children: usize,
-    pub start: usize,
-    pub count: usize,
-    pub offsets_start: usize,
-    pub offsets_count: usize,
-    pub layout: Layout,
-}
-
-// What a pass tells: the least of 1, 3, 4 and 6 answered no, 7 if there is none, and the column with an id.
-pub(crate) struct Passed {
-    pub column: Column,
-    pub fault: u8,
     pub found: bool,
 }
 

@@ -5,20 +5,20 @@ ghost use lib.Dec.{T};
 ghost use lib.IntN.{pos, natAbs};
 ghost use lib.Signed.{nonNeg};
 ghost use lib.ListN.{getD};
-ghost use Rattle.union_array.specs.Buffers.{buffersOf};
+ghost use Rattle.array_columns.specs.Buffers.{buffersOf};
 ghost use Rattle.union_array.specs.Lookup.{valueOf, typeIdOf, valueOffsetOf};
 ghost use Rattle.union_array.specs.ChildSlot.{noChildSlot, settled};
-use crate::Amounts;
 use crate::ChildSlot;
-use crate::Layout;
 use crate::Looked;
 use crate::TypeId;
 use crate::UnionArray;
-use crate::Value;
 use crate::ValueOffset;
 use crate::check;
-use crate::child_value;
 use crate::questions;
+use array_columns::Head;
+use array_columns::Layout;
+use array_columns::Value;
+use array_columns::child_value;
 
 // The type id at place start + i, 0 past the end.
 fn id_at(ids: &[i8], start: usize, i: usize) -> i8
@@ -63,7 +63,7 @@ fn no_child_slot(refusal: u8) -> ChildSlot
     ensures { λ r. ⌜ r ≡ noChildSlot refusal ⌝ }
 {
     ChildSlot {
-        column: questions::no_column(),
+        column: array_columns::questions::no_column(),
         slot: 0,
         refusal: refusal,
         id: 0,
@@ -92,7 +92,7 @@ fn settle(l: Looked, layout: Layout, n: usize, i: usize, id: i8, offset: i32) ->
             id: id,
         },
         Layout::Dense => {
-            if !check::is_within(offset, c.slots) {
+            if !array_columns::slots::is_within(offset, c.slots) {
                 return no_child_slot(8);
             }
             ChildSlot {
@@ -103,6 +103,15 @@ fn settle(l: Looked, layout: Layout, n: usize, i: usize, id: i8, offset: i32) ->
             }
         }
     }
+}
+
+// Slot i's child, its slot in it and its type id, once that was read and looked up. No array is handed on: that would cost a copy.
+fn slot_in_child(l: Looked, h: Head, i: usize, id: i8, offsets: &[i32]) -> ChildSlot
+    ensures { λ r. ⌜ r ≡ settled l (h .layout) (h .count) i id (getD (now (offsets .entry)) (h .«offsets_start» + i) (pos 0)) ⌝ }
+{
+    let offset = offset_at(offsets, h.offsets_start, i);
+    let layout = h.layout;
+    settle(l, layout, h.count, i, id, offset)
 }
 
 impl UnionArray {
@@ -118,24 +127,9 @@ impl UnionArray {
     ) -> Value
         ensures { λ r. ⌜ r ≡ valueOf self (buffersOf (now («type_ids» .entry)) (now (offsets .entry)) (now (values .entry)) (now (masks .entry)) (now (names .entry))) i ⌝ }
     {
-        let lent = Amounts {
-            ids: type_ids.len(),
-            offsets: offsets.len(),
-            values: values.len(),
-            masks: masks.len(),
-            names: names.len(),
-        };
         let id = id_at(type_ids, self.start, i);
-        let offset = offset_at(offsets, self.offsets_start, i);
-        let layout = self.layout;
-        let s = settle(
-            questions::look(self, lent, id),
-            layout,
-            self.count,
-            i,
-            id,
-            offset,
-        );
+        let l = questions::look(self, id, type_ids, offsets, values, masks, names);
+        let s = slot_in_child(l, questions::head_of(self), i, id, offsets);
         if s.refusal != 0 {
             return child_value::no_value(s.refusal);
         }
@@ -155,24 +149,9 @@ impl UnionArray {
     ) -> TypeId
         ensures { λ r. ⌜ r ≡ typeIdOf self (buffersOf (now («type_ids» .entry)) (now (offsets .entry)) (now (values .entry)) (now (masks .entry)) (now (names .entry))) i ⌝ }
     {
-        let lent = Amounts {
-            ids: type_ids.len(),
-            offsets: offsets.len(),
-            values: values.len(),
-            masks: masks.len(),
-            names: names.len(),
-        };
         let id = id_at(type_ids, self.start, i);
-        let offset = offset_at(offsets, self.offsets_start, i);
-        let layout = self.layout;
-        let s = settle(
-            questions::look(self, lent, id),
-            layout,
-            self.count,
-            i,
-            id,
-            offset,
-        );
+        let l = questions::look(self, id, type_ids, offsets, values, masks, names);
+        let s = slot_in_child(l, questions::head_of(self), i, id, offsets);
         TypeId {
             refusal: s.refusal,
             id: s.id,
@@ -191,24 +170,9 @@ impl UnionArray {
     ) -> ValueOffset
         ensures { λ r. ⌜ r ≡ valueOffsetOf self (buffersOf (now («type_ids» .entry)) (now (offsets .entry)) (now (values .entry)) (now (masks .entry)) (now (names .entry))) i ⌝ }
     {
-        let lent = Amounts {
-            ids: type_ids.len(),
-            offsets: offsets.len(),
-            values: values.len(),
-            masks: masks.len(),
-            names: names.len(),
-        };
         let id = id_at(type_ids, self.start, i);
-        let offset = offset_at(offsets, self.offsets_start, i);
-        let layout = self.layout;
-        let s = settle(
-            questions::look(self, lent, id),
-            layout,
-            self.count,
-            i,
-            id,
-            offset,
-        );
+        let l = questions::look(self, id, type_ids, offsets, values, masks, names);
+        let s = slot_in_child(l, questions::head_of(self), i, id, offsets);
         ValueOffset {
             offset: s.slot,
             refusal: s.refusal,

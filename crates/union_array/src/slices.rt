@@ -2,15 +2,14 @@
 ghost use mathlib.Core.Path.{_≡_};
 ghost use Prim.Native.Nat.{_+_, _<_};
 ghost use Rattle.union_array.specs.Types.{Sparse, noArray};
-ghost use Rattle.union_array.specs.Buffers.{buffersOf};
+ghost use Rattle.array_columns.specs.Buffers.{buffersOf};
 ghost use Rattle.union_array.specs.Slices.{movedColumn, sliced, sliceOf};
 ghost use Rattle.union_array.specs.Movable.{Movable, ColumnMovable, noSlice};
-use crate::Amounts;
-use crate::Column;
-use crate::Layout;
 use crate::Slice;
 use crate::UnionArray;
 use crate::questions;
+use array_columns::Column;
+use array_columns::Layout;
 
 // A sparse array's child, its words and mask bits moved by o, with n slots.
 fn move_column(c: Column, o: usize, n: usize) -> Column
@@ -58,7 +57,7 @@ fn cut(a: UnionArray, o: usize, n: usize) -> UnionArray
 pub fn no_array() -> UnionArray
     ensures { λ r. ⌜ r ≡ noArray ⌝ }
 {
-    let c = questions::no_column();
+    let c = array_columns::questions::no_column();
     let columns = [c; 128];
     UnionArray {
         columns: columns,
@@ -97,18 +96,11 @@ impl UnionArray {
     ) -> Slice
         ensures { λ r. ⌜ r ≡ sliceOf self (buffersOf (now («type_ids» .entry)) (now (offsets .entry)) (now (values .entry)) (now (masks .entry)) (now (names .entry))) o n ⌝ }
     {
-        let lent = Amounts {
-            ids: type_ids.len(),
-            offsets: offsets.len(),
-            values: values.len(),
-            masks: masks.len(),
-            names: names.len(),
-        };
-        let r = questions::ask(self, lent);
+        let r = questions::ask(self, type_ids, offsets, values, masks, names);
         if r != 0 {
             return no_slice(r);
         }
-        if !questions::part_in(o, n, self.count) {
+        if !array_columns::questions::part_in(o, n, self.count) {
             return no_slice(9);
         }
         let array = cut(self, o, n);

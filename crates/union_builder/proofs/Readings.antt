@@ -1,7 +1,7 @@
 -- Runs of appends. Assumes nothing.
 use mathlib.Core.Bool.{Bool, true, false, cond}
 use mathlib.Core.Option.{Option}
-use mathlib.Core.List.{List, []}
+use mathlib.Core.List.{List, [], _∷_}
 use mathlib.Core.Path.{_≡_, refl, sym, ap, ap₂, _∙_}
 use Prim.Native.Nat.{ℕ, zero, suc, _+_, _<_, _≤_}
 use native.Mathlib.Omega.{arith}
@@ -10,20 +10,22 @@ use lib.ListN.{length, getD, set, take, drop}
 use borrow.Author.Tests.{lt-ltb, le-ltb, le-leb, lt-leb, leb-true, eqb-true}
 use Rattle.bitmap.specs.Lists.{times}
 use Rattle.bitmap.proofs.Tables.{both, times-more, retable-length}
-use Rattle.union_array.specs.declared.Kind.{Kind}
-use Rattle.union_array.specs.Types.{widthOf, lowBits}
-use Rattle.union_array.specs.Buffers.{Buffers, amountsOf}
-use Rattle.union_array.specs.Refusal.{ifYes}
-use Rattle.union_array.specs.Numbers.{kindFrom, flagFrom, badNumber, badLength}
-use Rattle.union_array.proofs.Tests.{refused-is}
+use Rattle.array_columns.specs.declared.Kind.{Kind}
+use Rattle.union_array.specs.Types.{kindNumber, widthOf, lowBits}
+use Rattle.array_columns.specs.Buffers.{Buffers, amountsOf}
+use Rattle.array_columns.specs.Refusal.{_then_, ifYes}
+use Rattle.array_columns.specs.Numbers.{kindFrom, flagFrom, badNumber, badLength}
+use Rattle.array_columns.proofs.Tests.{refused-is}
+use Rattle.array_columns.proofs.KindLaws.{numbered}
+use Rattle.union_names.specs.Names.{question17}
 use Rattle.builder_columns.specs.Planning.{refusedPlan}
-use Rattle.union_builder.specs.Builder.{UnionBuilder, builderChecked}
-use Rattle.union_builder.specs.Append.{someIf, AppendOutcome, outcome, appendWith}
+use Rattle.union_builder.specs.Builder.{UnionBuilder, openChecked, known}
+use Rattle.union_builder.specs.Append.{someIf, cutTo, appendChecked, builderAfter, buffersAfter, AppendOutcome, outcome, appendWith}
 use Rattle.union_builder.specs.Writing.{Plan}
 use Rattle.union_builder.specs.Planning.{Sound, grownAs, answerBy, appendedOf}
 use Rattle.union_builder.specs.Appends.{Readings, readingsOf, isReading, readingOf, RunOutcome, runOutcome, appendsStep, lengthsMatch, appendsOf}
-use Rattle.union_builder.proofs.Appending.{append-value, append-none}
-use Rattle.union_builder.proofs.Keeping.{append-checked}
+use Rattle.union_builder.proofs.Appending.{then-zero, append-value, append-none}
+use Rattle.union_builder.proofs.Keeping.{append-open}
 
 -- ---- one reading
 
@@ -63,15 +65,15 @@ module _ (text : List ℕ) (start size kind present bits : ℕ) (b : UnionBuilde
     unfolding readingOf
     reading-good o h = rw e (rw (en, ek) at (h ∙ cut (flagFrom present)))
 
-  -- 15 and 16 are answered after a reading as before it
-  reading-checked : builderChecked ((readingOf text start size kind present bits b m) .answer .builder) (amountsOf m) ≡ builderChecked b (amountsOf m)
+  -- the builder is open after a reading as before it
+  reading-open : openChecked ((readingOf text start size kind present bits b m) .answer .builder) (amountsOf m) ≡ openChecked b (amountsOf m)
   unfolding readingOf
-  reading-checked = by (isReading (length text) start size kind present)
+  reading-open = by (isReading (length text) start size kind present)
     where
       by : (t : Bool)
-          → builderChecked ((cond t (appendWith b m (take size (drop start text)) (kindFrom kind) (someIf (flagFrom present) bits)) (outcome (record { builder = b; refusal = badNumber }) m)) .answer .builder) (amountsOf m)
-          ≡ builderChecked b (amountsOf m)
-      by true = append-checked b m (take size (drop start text)) (kindFrom kind) (someIf (flagFrom present) bits)
+          → openChecked ((cond t (appendWith b m (take size (drop start text)) (kindFrom kind) (someIf (flagFrom present) bits)) (outcome (record { builder = b; refusal = badNumber }) m)) .answer .builder) (amountsOf m)
+          ≡ openChecked b (amountsOf m)
+      by true = append-open b m (take size (drop start text)) (kindFrom kind) (someIf (flagFrom present) bits)
       by false = refl
 
 -- ---- a run
@@ -100,11 +102,11 @@ module _ (r : Readings) (k : ℕ) (s : RunOutcome) (b : UnionBuilder) (m : Buffe
       ∙ ap (appendsStep r k) e
       ∙ sym (times-more k (appendsStep r) s)
 
-  pub each-checked : (n : ℕ) → n ≡ builderChecked b (amountsOf m) → amountsOf after ≡ amountsOf m → n ≡ builderChecked w (amountsOf after)
-  each-checked n c a =
+  pub each-open : (n : ℕ) → n ≡ openChecked b (amountsOf m) → amountsOf after ≡ amountsOf m → n ≡ openChecked w (amountsOf after)
+  each-open n c a =
       c
-      ∙ sym (reading-checked (r .text) (getD (r .starts) k 0) (getD (r .sizes) k 0) (getD (r .kinds) k 0) (getD (r .present) k 0) (getD (r .bits) k 0) b m)
-      ∙ ap₂ builderChecked (sym (g ∙ ap (λ (x : AppendOutcome). x .answer .builder) h)) (sym a)
+      ∙ sym (reading-open (r .text) (getD (r .starts) k 0) (getD (r .sizes) k 0) (getD (r .kinds) k 0) (getD (r .present) k 0) (getD (r .bits) k 0) b m)
+      ∙ ap₂ openChecked (sym (g ∙ ap (λ (x : AppendOutcome). x .answer .builder) h)) (sym a)
 
   pub each-full : length (b .columns) ≡ 128 → (p .refusal ≡ 0 → Sound b p) → length (w .columns) ≡ 128
   unfolding grownAs
@@ -153,3 +155,57 @@ module _ (b : UnionBuilder) (m : Buffers) (r : Readings) (refusals : List ℕ) w
       → o ≡ times (length (r .starts)) (appendsStep r) (runOutcome (record { builder = b; refusal = 0 }) m refusals) → o ≡ appendsOf b m r refusals
   unfolding appendsOf
   appends-yes h o e = rw h e
+
+-- ---- a run of one reading
+
+take-all : (l : List ℕ) → take (length l) l ≡ l
+take-all [] = refl
+take-all (x ∷ xs) = ap (λ (t : List ℕ). x ∷ t) (take-all xs)
+
+pub then-first : (n k : ℕ) → (n ≡ 0 → ⊥) → n ≡ (n then k)
+then-first zero k h = absurd (h refl)
+then-first (suc n) k h = refl
+
+module _ (b : UnionBuilder) (m : Buffers) (name : List ℕ) (kind : Kind) (bits present : ℕ) where
+  refused-append : (v : Option ℕ) (n : ℕ) → n ≡ appendChecked b m name kind → (n ≡ 0 → ⊥) → outcome (record { builder = b; refusal = n }) m ≡ appendWith b m name kind v
+  unfolding appendWith
+  refused-append v n e h =
+      ap (λ (k : ℕ). outcome (record { builder = b; refusal = k }) m) e
+      ∙ at (builderAfter b (known b m name) name kind (cutTo kind v)) (buffersAfter b m (known b m name) name (cutTo kind v)) (appendChecked b m name kind) (λ z. h (e ∙ z))
+    where
+      at : (x : UnionBuilder) (y : Buffers) (k : ℕ) → (k ≡ 0 → ⊥)
+          → outcome (record { builder = b; refusal = k }) m ≡ outcome (record { builder = ifYes k x b; refusal = k }) (ifYes k y m)
+      at x y zero h = absurd (h refl)
+      at x y (suc k) h = refl
+
+  long-number : 32 < length name → (openChecked b (amountsOf m) then 17) ≡ appendChecked b m name kind
+  unfolding appendChecked question17
+  long-number h = rw (lt-leb (length name) 32 h)
+
+  -- a name of more than 32 bytes
+  pub append-long : (n : ℕ) → n ≡ (openChecked b (amountsOf m) then 17) → 32 < length name
+      → outcome (record { builder = b; refusal = n }) m ≡ appendWith b m name kind (someIf (flagFrom present) bits)
+  append-long n e h =
+      refused-append (someIf (flagFrom present) bits) n (e ∙ long-number h)
+      (λ z. let q : _≡_ {A = ℕ} 17 0 = then-zero (openChecked b (amountsOf m)) 17 (sym e ∙ z) .1 in omega arith)
+
+  abbrev pub oneReading : ℕ → ℕ → Readings
+  oneReading size number = readingsOf name (0 ∷ []) (size ∷ []) (number ∷ []) (present ∷ []) (bits ∷ [])
+
+  pub one-matches : (size number : ℕ) → lengthsMatch (oneReading size number) 1 ≡ true
+  unfolding lengthsMatch
+  one-matches size number = refl
+
+  one-is : (number : ℕ) → number ≡ kindNumber kind → present < 2
+      → readingOf name 0 (length name) number present bits b m ≡ appendWith b m name kind (someIf (flagFrom present) bits)
+  unfolding readingOf isReading
+  one-is number e h =
+      rw (e, le-leb (0 + length name) (length name) (omega arith), lt-ltb (kindNumber kind) 10 (numbered kind .low), lt-ltb present 2 h, numbered kind .back, take-all name)
+
+  pub one-appends : (number : ℕ) → number ≡ kindNumber kind → present < 2 → (after : UnionBuilder) (m′ : Buffers) (refusals : List ℕ)
+      → runOutcome (record { builder = after; refusal = 0 }) m′ refusals
+      ≡ times 1 (appendsStep (oneReading (length name) number)) (runOutcome (record { builder = b; refusal = 0 }) m (0 ∷ []))
+      → outcome (record { builder = after; refusal = getD refusals 0 0 }) m′ ≡ appendWith b m name kind (someIf (flagFrom present) bits)
+  unfolding appendsStep
+  one-appends number e h after m′ refusals q =
+      ap (λ (s : RunOutcome). outcome (record { builder = s .answer .builder; refusal = getD (s .refusals) 0 0 }) (s .buffers)) q ∙ one-is number e h

@@ -5,10 +5,10 @@ use Prim.Native.Nat.{ℕ, _+_}
 use lib.Dec.{eqb, leb}
 use lib.ListN.{length, getD, set, take, drop}
 use Rattle.bitmap.specs.Lists.{times}
-use Rattle.union_array.specs.Buffers.{Buffers}
-use Rattle.union_array.specs.Numbers.{kindFrom, isKind, flagFrom, isFlag, badNumber, badLength}
+use Rattle.array_columns.specs.Buffers.{Buffers}
+use Rattle.array_columns.specs.Numbers.{kindFrom, isKind, flagFrom, isFlag, badNumber, badLength}
 use Rattle.union_builder.specs.Builder.{UnionBuilder}
-use Rattle.union_builder.specs.Append.{Appended, someIf, AppendOutcome, outcome, appendWith}
+use Rattle.union_builder.specs.Append.{Appended, someIf, AppendOutcome, outcome, appended, appendWith}
 
 -- the readings: names in the text, kinds and presence by their numbers, and the values' bits
 pub record Readings : Type 0 where
@@ -30,7 +30,7 @@ isReading lent start size kind present = leb (start + size) lent && (isKind kind
 unfoldable pub readingOf : List ℕ → ℕ → ℕ → ℕ → ℕ → ℕ → UnionBuilder → Buffers → AppendOutcome
 readingOf text start size kind present bits b m =
     cond (isReading (length text) start size kind present) (appendWith b m (take size (drop start text)) (kindFrom kind) (someIf (flagFrom present) bits))
-    (outcome (record { builder = b; refusal = badNumber }) m)
+    (outcome (appended b badNumber) m)
 
 -- the answer, lent memory, and the number of each reading
 pub record RunOutcome : Type 0 where
@@ -48,7 +48,7 @@ appendsStep r k s =
     readingOf (r .text) (getD (r .starts) k 0) (getD (r .sizes) k 0) (getD (r .kinds) k 0) (getD (r .present) k 0) (getD (r .bits) k 0) (s .answer .builder)
     (s .buffers)
     in
-    runOutcome (record { builder = o .answer .builder; refusal = 0 }) (o .buffers) (set (s .refusals) k (o .answer .refusal))
+    runOutcome (appended (o .answer .builder) 0) (o .buffers) (set (s .refusals) k (o .answer .refusal))
 
 -- as many of everything as there are names, and room for as many numbers
 unfoldable pub lengthsMatch : Readings → ℕ → Bool
@@ -59,5 +59,5 @@ lengthsMatch r lent =
 -- all readings in order; where the lengths do not match, 129 and nothing changed
 unfoldable pub appendsOf : UnionBuilder → Buffers → Readings → List ℕ → RunOutcome
 appendsOf b m r refusals =
-    cond (lengthsMatch r (length refusals)) (times (length (r .starts)) (appendsStep r) (runOutcome (record { builder = b; refusal = 0 }) m refusals))
-    (runOutcome (record { builder = b; refusal = badLength }) m refusals)
+    cond (lengthsMatch r (length refusals)) (times (length (r .starts)) (appendsStep r) (runOutcome (appended b 0) m refusals))
+    (runOutcome (appended b badLength) m refusals)

@@ -1,24 +1,26 @@
 // One append, of a value or of a null.
 use crate::Appended;
 use crate::UnionBuilder;
+use crate::appends::append_each;
 use crate::planning::head_of;
 use crate::planning::plan;
-use crate::questions::builder_checked;
+use crate::questions::open_checked;
+use array_columns::Kind;
+use array_columns::kinds::kind_number;
+use array_columns::questions::amounts;
 use builder_columns::Plan;
-use builder_columns::columns::grown_column;
-use builder_columns::columns::if_sparse;
-use builder_columns::columns::own_column;
-use builder_columns::slots::in_column;
 use builder_columns::store::store;
-use union_array::Amounts;
-use union_array::Kind;
 ghost use mathlib.Core.Path.{_≡_};
-ghost use Rattle.union_array.specs.Buffers.{buffersOf, amountsOf};
-ghost use Rattle.union_builder.specs.Builder.{builderChecked};
-ghost use Rattle.union_builder.specs.Append.{someIf, outcome};
+ghost use Prim.Native.Nat.{_≤_, _<_};
+ghost use lib.ListN.{length};
+ghost use Rattle.array_columns.specs.Buffers.{buffersOf, amountsOf};
+ghost use Rattle.array_columns.specs.Refusal.{_then_};
+ghost use Rattle.array_columns.specs.Numbers.{flagFrom};
+ghost use Rattle.union_builder.specs.Builder.{openChecked};
+ghost use Rattle.union_builder.specs.Append.{someIf, outcome, appendWith};
 ghost use Rattle.union_builder.specs.Planning.{Sound, answerBy, appendedOf};
 
-// Plans an append, and writes what it adds. `checked` is the first no of 15 and 16, or 0. The builder itself stays: `grow` gives the next.
+// Plans an append, and writes what it adds. `checked` is what `open_checked` answered. The builder itself stays: `append_each` grows it.
 pub(crate) fn append_step(
     b: UnionBuilder,
     checked: u8,
@@ -32,7 +34,7 @@ pub(crate) fn append_step(
     masks: &mut [u64],
     names: &mut [u8],
 ) -> Plan
-    requires { ⌜ checked ≡ builderChecked b (amountsOf (buffersOf (now «type_ids») (now offsets) (now values) (now masks) (now names))) ⌝ }
+    requires { ⌜ checked ≡ openChecked b (amountsOf (buffersOf (now «type_ids») (now offsets) (now values) (now masks) (now names))) ⌝ }
     ensures { λ r. ⌜ (r .refusal ≡ 0 → Sound b r) ⌝ }
     ensures { λ r. ⌜
         outcome (answerBy b r (someIf present 0)) (buffersOf (now («type_ids» .exit)) (now (offsets .exit)) (now (values .exit)) (now (masks .exit)) (now (names .exit)))
@@ -57,62 +59,96 @@ pub(crate) fn append_step(
     p
 }
 
-// Appends a value's word, or a null. The builder grows in place: `grow` would copy the columns.
-pub(crate) fn append_slot(
-    mut b: UnionBuilder,
+// The number of an append whose name is longer than 32 bytes. `checked` is what `open_checked` answered.
+fn too_long(checked: u8) -> u8
+    ensures { λ r. ⌜ r ≡ (checked then 17) ⌝ }
+{
+    if checked == 0 { 17 } else { checked }
+}
+
+// Appends a value or a null under a name of at most 32 bytes: a run of one reading. `checked` is what `open_checked` answered.
+fn append_short(
+    b: UnionBuilder,
+    checked: u8,
     name: &[u8],
     kind: Kind,
-    word: u64,
-    present: bool,
+    bits: u64,
+    present: u8,
     type_ids: &mut [i8],
     offsets: &mut [i32],
     values: &mut [u64],
     masks: &mut [u64],
     names: &mut [u8],
 ) -> Appended
+    requires { ⌜ checked ≡ openChecked b (amountsOf (buffersOf (now «type_ids») (now offsets) (now values) (now masks) (now names))) ⌝ }
+    requires { ⌜ (length (now name) ≤ 32) × (present < 2) ⌝ }
     ensures { λ r. ⌜
         outcome r (buffersOf (now («type_ids» .exit)) (now (offsets .exit)) (now (values .exit)) (now (masks .exit)) (now (names .exit)))
-        ≡ appendedOf b (buffersOf (now («type_ids» .entry)) (now (offsets .entry)) (now (values .entry)) (now (masks .entry)) (now (names .entry))) (now (name .entry)) kind (someIf present word) ⌝ }
+        ≡ appendWith b (buffersOf (now («type_ids» .entry)) (now (offsets .entry)) (now (values .entry)) (now (masks .entry)) (now (names .entry))) (now (name .entry)) kind (someIf (flagFrom present) bits) ⌝ }
 {
-    let lent = Amounts {
-        ids: type_ids.len(),
-        offsets: offsets.len(),
-        values: values.len(),
-        masks: masks.len(),
-        names: names.len(),
-    };
-    let step = append_step(
+    let sizes = [name.len() as u8; 1];
+    let kinds = [kind_number(kind); 1];
+    let flags = [present; 1];
+    let words = [bits; 1];
+    let mut refusals = [0u8; 1];
+    let after = append_each(
         b,
-        builder_checked(b, lent),
+        checked,
+        name,
+        &[0u32; 1],
+        &sizes,
+        &kinds,
+        &flags,
+        &words,
+        type_ids,
+        offsets,
+        values,
+        masks,
+        names,
+        &mut refusals,
+    );
+    Appended {
+        builder: after,
+        refusal: refusals[0],
+    }
+}
+
+// Appends a value, or a null where `present` is 0.
+pub(crate) fn append_one(
+    b: UnionBuilder,
+    name: &[u8],
+    kind: Kind,
+    bits: u64,
+    present: u8,
+    type_ids: &mut [i8],
+    offsets: &mut [i32],
+    values: &mut [u64],
+    masks: &mut [u64],
+    names: &mut [u8],
+) -> Appended
+    requires { ⌜ present < 2 ⌝ }
+    ensures { λ r. ⌜
+        outcome r (buffersOf (now («type_ids» .exit)) (now (offsets .exit)) (now (values .exit)) (now (masks .exit)) (now (names .exit)))
+        ≡ appendWith b (buffersOf (now («type_ids» .entry)) (now (offsets .entry)) (now (values .entry)) (now (masks .entry)) (now (names .entry))) (now (name .entry)) kind (someIf (flagFrom present) bits) ⌝ }
+{
+    let checked = open_checked(b, amounts(type_ids, offsets, values, masks, names));
+    if 32 < name.len() {
+        return Appended {
+            builder: b,
+            refusal: too_long(checked),
+        };
+    }
+    append_short(
+        b,
+        checked,
         name,
         kind,
-        word,
+        bits,
         present,
         type_ids,
         offsets,
         values,
         masks,
         names,
-    );
-    if step.refusal != 0 {
-        return Appended {
-            builder: b,
-            refusal: step.refusal,
-        };
-    }
-    let id = step.id;
-    let c = step.column;
-    let layout = b.layout;
-    b.len = b.len + 1;
-    b.count = step.count;
-    b.columns[id] = own_column(layout, c, present);
-    let n = if_sparse(layout, step.count);
-    for k in 0..n {
-        let c = b.columns[k];
-        b.columns[k] = grown_column(c, !in_column(k, id, present));
-    }
-    Appended {
-        builder: b,
-        refusal: 0,
-    }
+    )
 }

@@ -1,24 +1,25 @@
-// Runs of appends: 15 and 16 are asked once for all readings of a run, since an accepted append keeps them.
+// Runs of appends: what `open_checked` asks is asked once for all readings of a run, since an accepted append keeps it.
 use crate::Appended;
 use crate::UnionBuilder;
 use crate::append::append_step;
-use crate::columns::grow;
-use crate::questions::builder_checked;
+use crate::questions::open_checked;
+use array_columns::child_value::low_bits;
+use array_columns::kinds::kind_from;
+use array_columns::questions::amounts;
 use builder_columns::Plan;
 use builder_columns::columns::grown_column;
+use builder_columns::columns::if_sparse;
+use builder_columns::columns::own_column;
 use builder_columns::planning::refused;
-use union_array::Amounts;
-use union_array::Layout;
-use union_array::child_value::low_bits;
-use union_array::kinds::kind_from;
+use builder_columns::slots::in_column;
 ghost use mathlib.Core.Path.{_≡_};
 ghost use mathlib.Core.Bool.{true};
 ghost use mathlib.Core.List.{[]};
 ghost use lib.ListN.{length};
 ghost use Rattle.bitmap.specs.Lists.{times};
-ghost use Rattle.union_array.specs.Buffers.{buffersOf, amountsOf};
-ghost use Rattle.union_array.specs.Numbers.{flagFrom};
-ghost use Rattle.union_builder.specs.Builder.{builderChecked};
+ghost use Rattle.array_columns.specs.Buffers.{buffersOf, amountsOf};
+ghost use Rattle.array_columns.specs.Numbers.{flagFrom};
+ghost use Rattle.union_builder.specs.Builder.{openChecked};
 ghost use Rattle.union_builder.specs.Append.{someIf, outcome};
 ghost use Rattle.union_builder.specs.Planning.{Sound, answerBy};
 ghost use Rattle.union_builder.specs.Appends.{readingsOf, isReading, readingOf, runOutcome, appendsStep, lengthsMatch, appendsOf};
@@ -36,7 +37,7 @@ fn is_reading(lent: usize, start: u32, size: u8, kind: u8, present: u8) -> bool
     present < 2
 }
 
-// Plans the append of one reading and writes what it adds, or answers 128. `checked` is the first no of 15 and 16, or 0.
+// Plans the append of one reading and writes what it adds, or answers 128. `checked` is what `open_checked` answered.
 fn append_reading(
     b: UnionBuilder,
     checked: u8,
@@ -52,7 +53,7 @@ fn append_reading(
     masks: &mut [u64],
     names: &mut [u8],
 ) -> Plan
-    requires { ⌜ checked ≡ builderChecked b (amountsOf (buffersOf (now «type_ids») (now offsets) (now values) (now masks) (now names))) ⌝ }
+    requires { ⌜ checked ≡ openChecked b (amountsOf (buffersOf (now «type_ids») (now offsets) (now values) (now masks) (now names))) ⌝ }
     ensures { λ r. ⌜ (r .refusal ≡ 0 → Sound b r) ⌝ }
     ensures { λ r. ⌜
         outcome (answerBy b r (someIf (flagFrom present) 0)) (buffersOf (now («type_ids» .exit)) (now (offsets .exit)) (now (values .exit)) (now (masks .exit)) (now (names .exit)))
@@ -80,9 +81,10 @@ fn append_reading(
     )
 }
 
-// Appends the readings in order, each number stored at its place in `refusals`. `checked` is the first no of 15 and 16, or 0.
-// The builder stays in its place: a dense append changes one column of it.
-fn append_each(
+// Appends the readings in order, each number stored at its place in `refusals`. `checked` is what `open_checked` answered.
+// The one place where a builder grows: the column of an append gets its slot, in sparse every column does. It grows where it lies,
+// since a function that is handed a builder copies it.
+pub(crate) fn append_each(
     b: UnionBuilder,
     checked: u8,
     text: &[u8],
@@ -98,7 +100,7 @@ fn append_each(
     names: &mut [u8],
     refusals: &mut [u8],
 ) -> UnionBuilder
-    requires { ⌜ checked ≡ builderChecked b (amountsOf (buffersOf (now «type_ids») (now offsets) (now values) (now masks) (now names))) ⌝ }
+    requires { ⌜ checked ≡ openChecked b (amountsOf (buffersOf (now «type_ids») (now offsets) (now values) (now masks) (now names))) ⌝ }
     requires { ⌜ lengthsMatch (readingsOf (now text) (now starts) (now sizes) (now kinds) (now present) (now bits)) (length (now refusals)) ≡ true ⌝ }
     ensures { λ r. ⌜
         runOutcome (record { builder = r; refusal = 0 }) (buffersOf (now («type_ids» .exit)) (now (offsets .exit)) (now (values .exit)) (now (masks .exit)) (now (names .exit))) (now (refusals .exit))
@@ -125,18 +127,15 @@ fn append_each(
         );
         refusals[k] = p.refusal;
         if p.refusal == 0 {
+            let id = p.id;
+            let c = p.column;
             let layout = builder.layout;
-            match layout {
-                Layout::Sparse => {
-                    builder = grow(builder, p, flag == 1);
-                }
-                Layout::Dense => {
-                    let id = p.id;
-                    let c = p.column;
-                    builder.len = builder.len + 1;
-                    builder.count = p.count;
-                    builder.columns[id] = grown_column(c, flag != 1);
-                }
+            builder.len = builder.len + 1;
+            builder.count = p.count;
+            builder.columns[id] = own_column(layout, c, flag == 1);
+            for j in 0..if_sparse(layout, p.count) {
+                let c = builder.columns[j];
+                builder.columns[j] = grown_column(c, !in_column(j, id, flag == 1));
             }
         }
     }
@@ -198,16 +197,10 @@ impl UnionBuilder {
                 refusal: 129,
             };
         }
-        let lent = Amounts {
-            ids: type_ids.len(),
-            offsets: offsets.len(),
-            values: values.len(),
-            masks: masks.len(),
-            names: names.len(),
-        };
+        let checked = open_checked(self, amounts(type_ids, offsets, values, masks, names));
         let after = append_each(
             self,
-            builder_checked(self, lent),
+            checked,
             text,
             starts,
             sizes,

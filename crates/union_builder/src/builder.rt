@@ -3,15 +3,15 @@ use crate::Appended;
 use crate::Length;
 use crate::Made;
 use crate::UnionBuilder;
-use crate::append::append_slot;
+use crate::append::append_one;
 use crate::questions::builder_checked;
+use array_columns::Kind;
+use array_columns::Layout;
+use array_columns::questions::amounts;
 use builder_columns::columns::no_column;
-use union_array::Amounts;
-use union_array::Kind;
-use union_array::Layout;
 ghost use mathlib.Core.Path.{_≡_};
-ghost use Rattle.union_array.specs.declared.Layout.the-variants.{Sparse, Dense};
-ghost use Rattle.union_array.specs.Buffers.{buffersOf};
+ghost use Rattle.array_columns.specs.declared.Layout.the-variants.{Sparse, Dense};
+ghost use Rattle.array_columns.specs.Buffers.{buffersOf};
 ghost use Rattle.union_builder.specs.Builder.{empty, madeOf};
 ghost use Rattle.union_builder.specs.Append.{outcome, appendOf, appendNullOf};
 ghost use Rattle.union_builder.specs.Finish.{lenOf};
@@ -46,14 +46,7 @@ fn made(
     ensures { λ r. ⌜ r ≡ madeOf layout capacity limit (buffersOf (now («type_ids» .entry)) (now (offsets .entry)) (now (values .entry)) (now (masks .entry)) (now (names .entry))) ⌝ }
 {
     let b = empty_builder(layout, capacity, limit);
-    let lent = Amounts {
-        ids: type_ids.len(),
-        offsets: offsets.len(),
-        values: values.len(),
-        masks: masks.len(),
-        names: names.len(),
-    };
-    let n = builder_checked(b, lent);
+    let n = builder_checked(b, amounts(type_ids, offsets, values, masks, names));
     if n == 0 {
         return Made {
             builder: b,
@@ -164,12 +157,12 @@ impl UnionBuilder {
             outcome r (buffersOf (now («type_ids» .exit)) (now (offsets .exit)) (now (values .exit)) (now (masks .exit)) (now (names .exit)))
             ≡ appendOf self (buffersOf (now («type_ids» .entry)) (now (offsets .entry)) (now (values .entry)) (now (masks .entry)) (now (names .entry))) (now (name .entry)) kind bits ⌝ }
     {
-        append_slot(
+        append_one(
             self,
             name,
             kind,
-            union_array::child_value::low_bits(bits, kind),
-            true,
+            bits,
+            1,
             type_ids,
             offsets,
             values,
@@ -193,12 +186,12 @@ impl UnionBuilder {
             outcome r (buffersOf (now («type_ids» .exit)) (now (offsets .exit)) (now (values .exit)) (now (masks .exit)) (now (names .exit)))
             ≡ appendNullOf self (buffersOf (now («type_ids» .entry)) (now (offsets .entry)) (now (values .entry)) (now (masks .entry)) (now (names .entry))) (now (name .entry)) kind ⌝ }
     {
-        append_slot(
+        append_one(
             self,
             name,
             kind,
             0,
-            false,
+            0,
             type_ids,
             offsets,
             values,

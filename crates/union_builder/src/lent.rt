@@ -1,8 +1,8 @@
 // One append with the builder lent, as the Rust has it.
 use crate::UnionBuilder;
-use union_array::Kind;
+use array_columns::Kind;
 ghost use mathlib.Core.Path.{_≡_};
-ghost use Rattle.union_array.specs.Buffers.{buffersOf};
+ghost use Rattle.array_columns.specs.Buffers.{buffersOf};
 ghost use Rattle.union_builder.specs.Append.{outcome, appendOf};
 
 impl UnionBuilder {

@@ -2,15 +2,13 @@
 mod append;
 mod appends;
 mod builder;
-mod columns;
-mod find;
 mod finish;
 mod lent;
 mod planning;
 mod questions;
 
+use array_columns::Layout;
 use builder_columns::BuilderColumn;
-use union_array::Layout;
 use union_array::UnionArray;
 
 // A builder of `capacity` slots and at most `limit` columns, with `len` slots and `count` columns so far.

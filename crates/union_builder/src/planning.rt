@@ -1,17 +1,18 @@
 // Questions 17 to 20 of an append, and where it goes.
 use crate::UnionBuilder;
-use crate::find::look;
+use array_columns::Kind;
 use builder_columns::BuilderHead;
 use builder_columns::Plan;
+use builder_columns::find::look;
 use builder_columns::planning::refused;
 use builder_columns::planning::settle;
-use union_array::Kind;
 use union_names::utf8::name_fits;
 ghost use mathlib.Core.Path.{_≡_};
+ghost use Prim.Native.Nat.{_≤_};
 ghost use lib.ListN.{length};
-ghost use Rattle.union_builder.specs.Builder.{namesOf};
-ghost use Rattle.union_builder.specs.Finding.{onlyNames, Searchable};
-ghost use Rattle.union_builder.specs.Writing.{builderHead};
+ghost use Rattle.union_builder.specs.Builder.{known, builderHead};
+ghost use Rattle.builder_columns.specs.Finding.{Searchable};
+ghost use Rattle.union_builder.specs.Finding.{onlyNames};
 ghost use Rattle.union_builder.specs.Planning.{planOf};
 
 // A builder but for its columns.
@@ -28,10 +29,10 @@ pub(crate) fn head_of(b: UnionBuilder) -> BuilderHead
     }
 }
 
-// Where an append goes. `checked` is the first no of 15 and 16, or 0; 17 to 20 are asked here.
+// Where an append goes. `checked` is what `open_checked` answered; 17 to 20 are asked here.
 pub(crate) fn plan(b: UnionBuilder, checked: u8, names: &[u8], name: &[u8], kind: Kind) -> Plan
-    requires { ⌜ (checked ≡ 0 → Searchable b (length (now names))) ⌝ }
-    ensures { λ r. ⌜ r ≡ planOf checked b (namesOf b (onlyNames (now (names .entry)))) (now (name .entry)) kind ⌝ }
+    requires { ⌜ (checked ≡ 0 → Searchable (b .columns) (b .count) (length (now names)) × (b .len ≤ 65536)) ⌝ }
+    ensures { λ r. ⌜ r ≡ planOf checked b (known b (onlyNames (now (names .entry))) (now (name .entry))) (now (name .entry)) kind ⌝ }
 {
     if checked != 0 {
         return refused(checked);
@@ -39,5 +40,7 @@ pub(crate) fn plan(b: UnionBuilder, checked: u8, names: &[u8], name: &[u8], kind
     if !name_fits(name) {
         return refused(17);
     }
-    settle(head_of(b), look(b, names, name), name, kind)
+    let columns = b.columns;
+    let found = look(columns, b.count, names, name);
+    settle(head_of(b), found, name, kind)
 }

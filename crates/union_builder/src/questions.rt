@@ -1,45 +1,11 @@
 // Questions 15 and 16.
 use crate::UnionBuilder;
-use builder_columns::BuilderColumn;
-use union_array::Amounts;
-use union_array::Layout;
+use array_columns::Amounts;
+use builder_columns::fitting::columns_fit;
 ghost use mathlib.Core.Path.{_≡_};
 ghost use Prim.Native.Nat.{_≤_};
-ghost use Rattle.bitmap.specs.Lists.{every};
-ghost use Rattle.union_builder.specs.Builder.{columnFits, question16, builderChecked};
-ghost use Rattle.union_builder.specs.Finding.{fits, numbersFit};
-
-// Whether a column fits a builder of `len` slots.
-fn column_fits(layout: Layout, len: usize, c: BuilderColumn) -> bool
-    ensures { λ r. ⌜ r ≡ fits layout len c ⌝ }
-{
-    let slots = c.slots as usize;
-    if 32 < c.size {
-        return false;
-    }
-    if len < slots {
-        return false;
-    }
-    match layout {
-        Layout::Sparse => slots == len,
-        Layout::Dense => true,
-    }
-}
-
-// Whether all columns in use fit.
-fn columns_fit(b: UnionBuilder) -> bool
-    requires { ⌜ b .count ≤ 128 ⌝ }
-    ensures { λ r. ⌜ r ≡ every (b .count) (columnFits b) ⌝ }
-{
-    let n = b.count;
-    let layout = b.layout;
-    for k in 0..n {
-        if !column_fits(layout, b.len, b.columns[k]) {
-            return false;
-        }
-    }
-    true
-}
+ghost use Rattle.union_builder.specs.Builder.{question16, builderChecked, openChecked};
+ghost use Rattle.union_builder.specs.Finding.{numbersFit};
 
 // Question 15 but for the columns.
 fn numbers_fit(capacity: usize, limit: usize, len: usize, count: usize) -> bool
@@ -90,7 +56,9 @@ pub(crate) fn builder_checked(b: UnionBuilder, lent: Amounts) -> u8
     if !numbers_fit(b.capacity, b.limit, b.len, b.count) {
         return 15;
     }
-    if !columns_fit(b) {
+    let columns = b.columns;
+    let layout = b.layout;
+    if !columns_fit(columns, b.count, layout, b.len) {
         return 15;
     }
     if lent_fits(b.capacity, b.limit, lent) {
@@ -98,4 +66,11 @@ pub(crate) fn builder_checked(b: UnionBuilder, lent: Amounts) -> u8
     } else {
         16
     }
+}
+
+// What an append or a closing asks of the builder before its own questions.
+pub(crate) fn open_checked(b: UnionBuilder, lent: Amounts) -> u8
+    ensures { λ r. ⌜ r ≡ openChecked b lent ⌝ }
+{
+    builder_checked(b, lent)
 }

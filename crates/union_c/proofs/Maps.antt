@@ -12,11 +12,11 @@ use lib.ListN.{length, getD, take, set, replicate}
 use lib.IntN.{pos}
 use Rattle.bitmap.specs.Lists.{every}
 use Rattle.bitmap.proofs.Tables.{three, every-at, every-more}
-use Rattle.union_array.specs.declared.Column.{Column}
-use Rattle.union_array.specs.declared.Layout.{Layout}
+use Rattle.array_columns.specs.declared.Column.{Column}
+use Rattle.array_columns.specs.declared.Layout.{Layout}
 use Rattle.union_array.specs.declared.UnionArray.{UnionArray}
 use Rattle.union_array.specs.Types.{noColumn}
-use Rattle.union_array.specs.Numbers.{layoutFrom, layoutNumber}
+use Rattle.array_columns.specs.Numbers.{layoutFrom, layoutNumber}
 use Rattle.union_c.specs.Numbers.{each, entriesUsed, firstBy}
 use Rattle.union_c.specs.Arrays.{CColumn, CArray, CNamePlace, columnFrom, arrayFrom, columnTo, arrayTo}
 use Rattle.union_c.specs.Builders.{CBuilderColumn}

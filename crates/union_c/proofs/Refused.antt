@@ -2,7 +2,7 @@
 use mathlib.Core.Path.{_≡_, refl, sym, ap, ap₂}
 use Prim.Native.Nat.{ℕ, zero, suc}
 use native.Mathlib.Omega.{arith}
-use Rattle.union_array.specs.Refusal.{ifYes}
+use Rattle.array_columns.specs.Refusal.{ifYes}
 use Rattle.union_builder.specs.declared.Finished.{Finished}
 use Rattle.union_c.specs.Arrays.{CArray, arrayTo}
 use Rattle.union_c.specs.Builders.{CBuilder, CFinished, builderTo, finishedTo}

@@ -2,9 +2,9 @@
 use mathlib.Core.Bool.{Bool, _&&_}
 use lib.ListN.{take, replicate}
 use Rattle.bitmap.specs.Bits.{digit}
-use Rattle.union_array.specs.declared.Column.{Column}
+use Rattle.array_columns.specs.declared.Column.{Column}
 use Rattle.union_array.specs.declared.UnionArray.{UnionArray}
-use Rattle.union_array.specs.declared.Value.{Value}
+use Rattle.array_columns.specs.declared.Value.{Value}
 use Rattle.union_array.specs.declared.TypeId.{TypeId}
 use Rattle.union_array.specs.declared.ValueOffset.{ValueOffset}
 use Rattle.union_array.specs.declared.Child.{Child}
@@ -14,7 +14,7 @@ use Rattle.union_array.specs.declared.Flag.{Flag}
 use Rattle.union_array.specs.declared.Slice.{Slice}
 use Rattle.union_array.specs.Types.{kindNumber, noColumn}
 use Rattle.union_array.specs.Lookup.{noName}
-use Rattle.union_array.specs.Numbers.{kindFrom, layoutFrom, layoutNumber, isLayout, flagFrom}
+use Rattle.array_columns.specs.Numbers.{kindFrom, layoutFrom, layoutNumber, isLayout, flagFrom}
 use Rattle.union_c.specs.Numbers.{isCase, each, firstBy}
 pub use Rattle.union_c.specs.declared.CColumn.{CColumn}
 pub use Rattle.union_c.specs.declared.CArray.{CArray}

@@ -4,8 +4,8 @@ use Prim.Native.Nat.{ℕ}
 use lib.ListN.{take, replicate}
 use Rattle.bitmap.specs.Bits.{digit}
 use Rattle.union_array.specs.Types.{kindNumber, noArray}
-use Rattle.union_array.specs.Refusal.{ifYes}
-use Rattle.union_array.specs.Numbers.{kindFrom, layoutFrom, layoutNumber, isLayout, flagFrom, badNumber}
+use Rattle.array_columns.specs.Refusal.{ifYes}
+use Rattle.array_columns.specs.Numbers.{kindFrom, layoutFrom, layoutNumber, isLayout, flagFrom, badNumber}
 use Rattle.builder_columns.specs.declared.BuilderColumn.{BuilderColumn}
 use Rattle.union_builder.specs.declared.UnionBuilder.{UnionBuilder}
 use Rattle.union_builder.specs.declared.Made.{Made}

@@ -3,7 +3,7 @@ use mathlib.Core.Bool.{Bool, true, cond, _&&_}
 use mathlib.Core.List.{List, [], _∷_}
 use Prim.Native.Nat.{ℕ, zero, suc}
 use lib.Dec.{ltb}
-use Rattle.union_array.specs.Numbers.{isKind, isFlag}
+use Rattle.array_columns.specs.Numbers.{isKind, isFlag}
 
 -- the numbers of a column name cases
 unfoldable pub isCase : ℕ → ℕ → Bool

@@ -1,5 +1,6 @@
 // Answers of a builder's calls and of a null mask, as C structs. `c` is the builder that the caller keeps.
 ghost use mathlib.Core.Path.{_≡_};
+ghost use Rattle.logical_nulls.specs.Mask.{numbersOf};
 ghost use Rattle.union_c.specs.Builders.{madeTo, appendedTo, finishedTo, notFinished};
 ghost use Rattle.union_c.specs.Nulls.{nullsTo};
 use crate::CBuilder;
@@ -7,6 +8,7 @@ use crate::CBuilt;
 use crate::CFinished;
 use crate::CNulls;
 use crate::convert;
+use array_columns::kinds::flag_number;
 use logical_nulls::LogicalNulls;
 use union_array::slices;
 use union_builder::Appended;
@@ -73,12 +75,15 @@ pub fn not_finished(builder: CBuilder) -> CFinished
 }
 
 pub fn nulls_to(r: LogicalNulls) -> CNulls
-    ensures { λ c. ⌜ c ≡ nullsTo r ⌝ }
+    ensures { λ c. ⌜ c ≡ nullsTo (numbersOf r) ⌝ }
 {
+    let route = r.route;
+    let number = route.number();
+    let present = flag_number(r.present);
     CNulls {
         nulls: r.nulls,
         refusal: r.refusal,
-        route: r.route,
-        present: convert::flag_to(r.present),
+        route: number,
+        present: present,
     }
 }

@@ -1,7 +1,6 @@
 // Numbers and C structs, read as the crates below have them, and written back. `c` is the struct that the caller has.
 ghost use mathlib.Core.Path.{_≡_};
-ghost use Rattle.bitmap.specs.Bits.{digit};
-ghost use Rattle.union_array.specs.Numbers.{layoutFrom, layoutNumber};
+ghost use Rattle.array_columns.specs.Numbers.{layoutFrom, layoutNumber};
 ghost use Rattle.union_c.specs.Numbers.{isCase, entriesUsed};
 ghost use Rattle.union_c.specs.Arrays.{columnFrom, arrayFrom, isArray, columnTo, arrayTo, valueTo, flagTo, typeNamesTo};
 ghost use Rattle.union_c.specs.Nulls.{strategyFrom, isStrategy};
@@ -14,17 +13,18 @@ use crate::CFlag;
 use crate::CNamePlace;
 use crate::CTypeNames;
 use crate::CValue;
+use array_columns::Column;
+use array_columns::Kind;
+use array_columns::Layout;
+use array_columns::Value;
+use array_columns::kinds::flag_number;
+use array_columns::kinds::kind_from;
+use array_columns::kinds::kind_number;
 use builder_columns::BuilderColumn;
 use logical_nulls::SparseStrategy;
-use union_array::Column;
 use union_array::Flag;
-use union_array::Kind;
-use union_array::Layout;
 use union_array::TypeNames;
 use union_array::UnionArray;
-use union_array::Value;
-use union_array::kinds::kind_from;
-use union_array::kinds::kind_number;
 use union_builder::UnionBuilder;
 
 // The layout with a number; any other number is read as sparse.
@@ -45,16 +45,6 @@ fn layout_to(layout: Layout) -> u8
         Layout::Sparse => 0,
         Layout::Dense => 1,
     }
-}
-
-// A flag's number.
-pub(crate) fn flag_to(flag: bool) -> u8
-    ensures { λ r. ⌜ r ≡ digit flag ⌝ }
-{
-    if flag {
-        return 1;
-    }
-    0
 }
 
 // The strategy with a route's number; any other number is read as Gather.
@@ -128,7 +118,7 @@ pub fn column_to(column: Column) -> CColumn
         size: column.size,
         id: column.id,
         kind: kind_number(kind),
-        masked: flag_to(column.masked),
+        masked: flag_number(column.masked),
     }
 }
 
@@ -157,7 +147,7 @@ pub fn is_array(c: CArray) -> bool
 pub fn array_from(c: CArray) -> UnionArray
     ensures { λ r. ⌜ r ≡ arrayFrom c ⌝ }
 {
-    let zeros = union_array::questions::no_column();
+    let zeros = array_columns::questions::no_column();
     let mut columns = [zeros; 128];
     let n = in_use(c.fields);
     for k in 0..n {
@@ -180,7 +170,7 @@ pub fn array_from(c: CArray) -> UnionArray
 pub fn array_to(a: UnionArray) -> CArray
     ensures { λ r. ⌜ r ≡ arrayTo a ⌝ }
 {
-    let zeros = column_to(union_array::questions::no_column());
+    let zeros = column_to(array_columns::questions::no_column());
     let mut columns = [zeros; 128];
     let n = in_use(a.fields);
     for k in 0..n {
@@ -212,7 +202,7 @@ pub fn value_to(v: Value) -> CValue
         refusal: v.refusal,
         id: v.id,
         kind: kind_number(kind),
-        missing: flag_to(v.missing),
+        missing: flag_number(v.missing),
     }
 }
 
@@ -221,7 +211,7 @@ pub fn flag_answer_to(f: Flag) -> CFlag
 {
     CFlag {
         refusal: f.refusal,
-        holds: flag_to(f.holds),
+        holds: flag_number(f.holds),
     }
 }
 
@@ -263,7 +253,7 @@ fn builder_column_to(column: BuilderColumn) -> CBuilderColumn
         slots: column.slots,
         size: column.size,
         kind: kind_number(kind),
-        masked: flag_to(column.masked),
+        masked: flag_number(column.masked),
     }
 }
 

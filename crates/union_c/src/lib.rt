@@ -2,7 +2,7 @@
 pub mod answers;
 pub mod convert;
 
-// A column list's entry. `kind` is 0 to 9 in the order of `union_array::Kind`, `masked` 0 or 1.
+// A column list's entry. `kind` is 0 to 9 in the order of `array_columns::Kind`, `masked` 0 or 1.
 #[repr(C)]
 pub struct CColumn {
     pub values: usize,

@@ -1,8 +1,8 @@
 -- A run of readings appended in order, in one call, at the boundary.
 use mathlib.Core.List.{List}
 use Prim.Native.Nat.{ℕ}
-use Rattle.union_array.specs.Buffers.{Buffers}
-use Rattle.union_array.specs.Numbers.{badNumber}
+use Rattle.array_columns.specs.Buffers.{Buffers}
+use Rattle.array_columns.specs.Numbers.{badNumber}
 use Rattle.union_builder.specs.Appends.{Readings, RunOutcome, appendsOf}
 use Rattle.union_c.specs.declared.CBuilder.{CBuilder}
 use Rattle.union_c.specs.declared.CBuilt.{CBuilt}

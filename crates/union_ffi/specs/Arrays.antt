@@ -6,12 +6,12 @@ use lib.ListN.{replicate}
 use Rattle.union_array.specs.declared.UnionArray.{UnionArray}
 use Rattle.union_array.specs.declared.Flag.{Flag}
 use Rattle.union_array.specs.Types.{noColumn, noArray}
-use Rattle.union_array.specs.Buffers.{Buffers, amountsOf}
-use Rattle.union_array.specs.Refusal.{ifYes}
+use Rattle.array_columns.specs.Buffers.{Buffers}
+use Rattle.array_columns.specs.Refusal.{ifYes}
 use Rattle.union_array.specs.Questions.{asked}
 use Rattle.union_array.specs.Lookup.{tryNewOf, noValue, valueOf, typeIdOf, valueOffsetOf, childOf, noName, typeNamesOf, isDenseOf, isNullableOf}
 use Rattle.union_array.specs.Slices.{sliceOf}
-use Rattle.union_array.specs.Numbers.{badNumber}
+use Rattle.array_columns.specs.Numbers.{badNumber}
 use Rattle.union_c.specs.declared.CArray.{CArray}
 use Rattle.union_c.specs.declared.CValue.{CValue}
 use Rattle.union_c.specs.declared.CTypeId.{CTypeId}
@@ -57,7 +57,7 @@ abbrev pub partOf : UnionArray → ℕ → CPart
 partOf a n = record { start = ifYes n (a .start) 0; count = ifYes n (a .count) 0; refusal = n }
 
 unfoldable pub cTypeIds : CArray → Buffers → CPart
-cTypeIds a m = partOf (arrayFrom a) (atBoundary (isArray a) (asked (arrayFrom a) (amountsOf m)) badNumber)
+cTypeIds a m = partOf (arrayFrom a) (atBoundary (isArray a) (asked (arrayFrom a) m) badNumber)
 
 unfoldable pub cSlice : CArray → Buffers → ℕ → ℕ → CSlice
 cSlice a m o n = sliceTo (atBoundary (isArray a) (sliceOf (arrayFrom a) m o n) (record { array = noArray; refusal = badNumber }))

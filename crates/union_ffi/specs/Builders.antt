@@ -3,9 +3,9 @@ use mathlib.Core.Bool.{_&&_}
 use mathlib.Core.Option.{Option}
 use mathlib.Core.List.{List}
 use Prim.Native.Nat.{ℕ}
-use Rattle.union_array.specs.declared.Layout.{Layout}
-use Rattle.union_array.specs.Buffers.{Buffers}
-use Rattle.union_array.specs.Numbers.{kindFrom, isKind, badNumber}
+use Rattle.array_columns.specs.declared.Layout.{Layout}
+use Rattle.array_columns.specs.Buffers.{Buffers}
+use Rattle.array_columns.specs.Numbers.{kindFrom, isKind, badNumber}
 use Rattle.union_builder.specs.Builder.{madeOf}
 use Rattle.union_builder.specs.Append.{AppendOutcome, appendWith}
 use Rattle.union_builder.specs.Finish.{lenOf, finishClonedOf, finishOf}

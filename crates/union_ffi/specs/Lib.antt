@@ -5,5 +5,3 @@ pub mod Nulls
 pub mod Builders
 pub mod Values
 pub mod Appends
--- What the contracts of inner functions cite.
-pub mod Reading

@@ -2,8 +2,8 @@
 use mathlib.Core.Bool.{_&&_}
 use mathlib.Core.List.{List}
 use Prim.Native.Nat.{ℕ}
-use Rattle.union_array.specs.Buffers.{Buffers}
-use Rattle.union_array.specs.Numbers.{badNumber}
+use Rattle.array_columns.specs.Buffers.{Buffers}
+use Rattle.array_columns.specs.Numbers.{badNumber}
 use Rattle.logical_nulls.specs.Mask.{Masked, logicalNullsOf, strategyOf, notMasked}
 use Rattle.union_c.specs.declared.CArray.{CArray}
 use Rattle.union_c.specs.declared.CNulls.{CNulls}

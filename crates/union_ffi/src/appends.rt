@@ -1,10 +1,11 @@
 // Runs of appends, for C: the builder is read and written once for all readings of a run.
 ghost use mathlib.Core.Path.{_≡_};
-ghost use Rattle.union_array.specs.Buffers.{buffersOf};
+ghost use Rattle.array_columns.specs.Buffers.{buffersOf};
 ghost use Rattle.union_builder.specs.Appends.{readingsOf};
 ghost use Rattle.union_ffi.specs.Appends.{cAppended, cAppends};
 use union_c::CBuilder;
 use union_c::CBuilt;
+use union_c::answers;
 use union_c::convert;
 
 // Appends the readings in order: names in the text, kinds and presence by their numbers, and the values' bits.
@@ -35,29 +36,21 @@ pub extern "C" fn union_builder_appends(
         };
     }
     let b = convert::builder_from(builder);
-    let r = b.appends(
-        text,
-        starts,
-        sizes,
-        kinds,
-        present,
-        bits,
-        type_ids,
-        offsets,
-        values,
-        masks,
-        names,
-        refusals,
-    );
-    if r.refusal != 0 {
-        return CBuilt {
-            builder: builder,
-            refusal: r.refusal,
-        };
-    }
-    let after = r.builder;
-    CBuilt {
-        builder: convert::builder_into(builder, after),
-        refusal: 0,
-    }
+    answers::appended_to(
+        builder,
+        b.appends(
+            text,
+            starts,
+            sizes,
+            kinds,
+            present,
+            bits,
+            type_ids,
+            offsets,
+            values,
+            masks,
+            names,
+            refusals,
+        ),
+    )
 }

@@ -1,11 +1,10 @@
 // The calls on an array, for C.
 ghost use mathlib.Core.Path.{_≡_};
-ghost use Rattle.union_array.specs.Buffers.{buffersOf};
+ghost use Rattle.array_columns.specs.Buffers.{buffersOf};
 ghost use Rattle.union_ffi.specs.Arrays.{cTryNew, cValue, cTypeId, cValueOffset, cChild, cTypeNames, cIsDense, cIsNullable, cTypeIds, cSlice};
-use union_array::Amounts;
+use array_columns::child_value;
 use union_array::NamePlace;
 use union_array::TypeNames;
-use union_array::child_value;
 use union_array::questions;
 use union_array::slices;
 use union_c::CArray;
@@ -127,7 +126,7 @@ pub extern "C" fn union_array_child(
 {
     if !convert::is_array(array) {
         return CChild {
-            column: convert::column_to(questions::no_column()),
+            column: convert::column_to(array_columns::questions::no_column()),
             refusal: 128,
         };
     }
@@ -227,16 +226,7 @@ pub extern "C" fn union_array_type_ids(
         };
     }
     let a = convert::array_from(array);
-    let r = questions::ask(
-        a,
-        Amounts {
-            ids: type_ids.len(),
-            offsets: offsets.len(),
-            values: values.len(),
-            masks: masks.len(),
-            names: names.len(),
-        },
-    );
+    let r = questions::ask(a, type_ids, offsets, values, masks, names);
     if r != 0 {
         return CPart {
             start: 0,

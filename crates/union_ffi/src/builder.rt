@@ -1,10 +1,10 @@
 // The makings of a builder and the calls on it, for C.
 ghost use mathlib.Core.Path.{_≡_};
 ghost use mathlib.Core.Option.{none, some};
-ghost use Rattle.union_array.specs.declared.Layout.the-variants.{Sparse, Dense};
-ghost use Rattle.union_array.specs.Buffers.{buffersOf};
+ghost use Rattle.array_columns.specs.declared.Layout.the-variants.{Sparse, Dense};
+ghost use Rattle.array_columns.specs.Buffers.{buffersOf};
 ghost use Rattle.union_ffi.specs.Builders.{cOutcome, cMade, cAppendWith, cLen, cFinishCloned, cFinish};
-use union_array::kinds;
+use array_columns::kinds;
 use union_builder::UnionBuilder;
 use union_c::CBuilder;
 use union_c::CBuilt;

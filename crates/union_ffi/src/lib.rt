@@ -4,9 +4,3 @@ mod array;
 mod builder;
 mod nulls;
 mod values;
-
-// A slot's value, as a run tells it.
-pub(crate) struct SlotValue {
-    pub(crate) bits: u64,
-    pub(crate) missing: u8,
-}

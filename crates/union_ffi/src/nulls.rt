@@ -1,6 +1,6 @@
 // The null mask, for C.
 ghost use mathlib.Core.Path.{_≡_};
-ghost use Rattle.union_array.specs.Buffers.{buffersOf};
+ghost use Rattle.array_columns.specs.Buffers.{buffersOf};
 ghost use Rattle.union_ffi.specs.Nulls.{cMasked, cLogicalNulls, cStrategy};
 use logical_nulls::mask;
 use logical_nulls::named;

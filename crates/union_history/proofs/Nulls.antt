@@ -15,26 +15,28 @@ use Rattle.bitmap.proofs.Counts.{count-none, count-zero, not-not}
 use Rattle.bitmap.proofs.Setting.{written-bit}
 use Rattle.bitmap.proofs.Tables.{every-all}
 use Rattle.bitmap.proofs.Words.{count-ext}
-use Rattle.union_array.specs.Buffers.{Buffers, amountsOf}
+use Rattle.array_columns.specs.Buffers.{Buffers}
 use Rattle.union_array.specs.Lookup.{columnValue}
 use Rattle.union_array.specs.Questions.{asked, checked, namedAt, offsetFits, question7, question8, slotChecked, withinChild}
 use Rattle.union_array.specs.Slots.{all, childAt, columnOf, inUse, isSome, nullIn, nullsIn, offsetAt, present, slotNull, typeIdAt}
 use Rattle.union_array.specs.Types.{byLayout}
-use Rattle.union_array.specs.declared.Column.{Column}
-use Rattle.union_array.specs.declared.Layout.{Layout}
-use Rattle.union_array.specs.declared.Layout.the-variants.{Dense, Sparse}
+use Rattle.array_columns.specs.declared.Column.{Column}
+use Rattle.array_columns.specs.declared.Layout.{Layout}
+use Rattle.array_columns.specs.declared.Layout.the-variants.{Dense, Sparse}
 use Rattle.union_array.specs.declared.UnionArray.{UnionArray}
-use Rattle.union_array.specs.declared.Value.{Value}
-use Rattle.null_strategy.specs.Route.{cheaper, fullyNulls, hasNull, howMany, routeOf, sparseRoute, withNulls}
+use Rattle.array_columns.specs.declared.Value.{Value}
+use Rattle.null_strategy.specs.Route.{fullyNulls, hasNull, howMany, isAbsent, routeOf, sparseRoute, withNulls}
+use Rattle.null_strategy.specs.declared.Route.{Route}
+use Rattle.null_strategy.specs.declared.Route.the-variants.{Absent, OneField, AllNull, Gather as routeGather, SkipOne as routeSkipOne, SkipWithoutNulls as routeSkipWithout, SkipFullyNull as routeSkipFully}
+use Rattle.null_strategy.proofs.Choosing.{sparse-is}
 use Rattle.null_strategy.specs.Setting.{question12, settingOf}
-use Rattle.null_strategy.specs.declared.Choice.{Choice}
-use Rattle.logical_nulls.specs.Mask.{logicalNullsOf, maskedBy, question14, strategyOf, strategyRoute, withWords}
+use Rattle.logical_nulls.specs.Mask.{logicalNullsOf, masked, maskedBy, question14, strategyOf, strategyRoute}
 use Rattle.logical_nulls.specs.declared.SparseStrategy.{SparseStrategy}
 use Rattle.logical_nulls.specs.declared.SparseStrategy.the-variants.{Gather, SkipFullyNull, SkipOne, SkipWithoutNulls}
 use Rattle.union_history.specs.Claim.{isSetting, Marks}
-use Rattle.union_history.proofs.Yes.{and-both}
+use Rattle.union_history.proofs.Lists.{and-both}
 use Rattle.union_array.proofs.Accepted.{accepted}
-use Rattle.union_array.proofs.Columns.{all-found}
+use Rattle.array_columns.proofs.Columns.{all-found}
 use Rattle.union_array.proofs.SlicedSlots.{slot-asked, told}
 
 -- ---- a slot that `value` answers: its child is found, its slot is in it, and it is null exactly if the answer is `missing`
@@ -58,7 +60,7 @@ pub slot-of : (a : UnionArray) (m : Buffers) (i : ℕ) (v : Value) → told (a .
 unfolding slotNull
 slot-of a m i v e z = let r = told-slot (a .layout) m (childAt a m i) (offsetAt a m i) i v e z in record { found = r .0; inside = r .1; isNull = r .2 }
 
-pub slot-passes : (a : UnionArray) (m : Buffers) (i : ℕ) (missing : Bool) → asked a (amountsOf m) ≡ 0 → i < a .count → Slot a m i missing → slotChecked a m i ≡ 0
+pub slot-passes : (a : UnionArray) (m : Buffers) (i : ℕ) (missing : Bool) → asked a m ≡ 0 → i < a .count → Slot a m i missing → slotChecked a m i ≡ 0
 slot-passes a m i missing g h s = slot-asked a m i g h ∙ rw (s .found, s .inside)
 
 -- ---- counting
@@ -89,26 +91,11 @@ module _ (m : Buffers) (l : Layout) (cs : List Column) (n i : ℕ) (x z : ℤ) (
       go none e q = refl
       go (some c) e q = f c (byLayout l i (natAbs z)) (all-found p cs x c a e) (within-child l cs n i x z c s h q e)
 
-cheaper-route : (best : Choice) (may : Bool) (cost r : ℕ) → (best .route ≡ 0 → ⊥) → (r ≡ 0 → ⊥) → (cheaper best may cost r) .route ≡ 0 → ⊥
-cheaper-route best may cost r h k e = go (may && ltb cost (best .cost)) e
-  where
-    go : (a : Bool) → (cond a (record { cost = cost; route = r }) best) .route ≡ 0 → ⊥
-    go true q = k q
-    go false q = h q
-
-sparse-route : (g n m f : ℕ) → sparseRoute g n m f ≡ 0 → ⊥
-unfolding sparseRoute
-sparse-route g n m f e =
-    let first : Choice = record { cost = g; route = 3 } in
-    cheaper-route (cheaper (cheaper first (eqb m n) (n - 1) 4) true m 5) true (n - f) 6
-    (cheaper-route (cheaper first (eqb m n) (n - 1) 4) true m 5
-    (cheaper-route first (eqb m n) (n - 1) 4 (λ z. omega arith) (λ z. omega arith)) (λ z. omega arith)) (λ z. omega arith) e
-
-module _ (a : UnionArray) (m : Buffers) (g : asked a (amountsOf m) ≡ 0) (missing : ℕ → Bool) (slots : (i : ℕ) → i < a .count → Slot a m i (missing i)) where
+module _ (a : UnionArray) (m : Buffers) (g : asked a m ≡ 0) (missing : ℕ → Bool) (slots : (i : ℕ) → i < a .count → Slot a m i (missing i)) where
   -- whichever way the mask is made
   marks-with : (pr : Bool) (route : ℕ) (out : List ℕ) → (pr ≡ true → (i : ℕ) → i < a .count → bitAt out i ≡ not (slotNull a m i))
       → (pr ≡ false → (i : ℕ) → i < a .count → slotNull a m i ≡ false)
-      → Marks (a .count) missing (withWords (record { nulls = cond pr (count (a .count) (slotNull a m)) 0; refusal = 0; route = route; present = pr }) out)
+      → Marks (a .count) missing (masked (record { nulls = cond pr (count (a .count) (slotNull a m)) 0; refusal = 0; route = route; present = pr }) out)
   marks-with true route out h k = record {
     accepted = refl;
     marked = λ i q. ap not (h refl i q) ∙ not-not (slotNull a m i) ∙ (slots i q) .isNull;
@@ -120,30 +107,35 @@ module _ (a : UnionArray) (m : Buffers) (g : asked a (amountsOf m) ≡ 0) (missi
     counted = sym (count-none (a .count) missing (λ i q. sym ((slots i q) .isNull) ∙ k refl i q));
   }
 
-  marks-on : (route : ℕ) (out : List ℕ) → (route ≡ 0 → (i : ℕ) → i < a .count → slotNull a m i ≡ false) → Marks (a .count) missing (maskedBy a m route out)
-  unfolding maskedBy
-  marks-on route out h = go (leb 3 route) refl (eqb route 0) refl
-    where
-      nulls : ℕ
-      nulls = count (a .count) (slotNull a m)
+  -- the mask is there exactly if there is a null
+  by-nulls : (route : ℕ) (out : List ℕ) → let nulls = count (a .count) (slotNull a m) in
+      Marks (a .count) missing (masked (record { nulls = cond (not (eqb nulls 0)) nulls 0; refusal = 0; route = route; present = not (eqb nulls 0) }) (written (a .count) (slotNull a m) out))
+  by-nulls route out =
+      let nulls = count (a .count) (slotNull a m) in
+      marks-with (not (eqb nulls 0)) route (written (a .count) (slotNull a m) out) (λ e i q. written-bit (a .count) (slotNull a m) out i q)
+      (λ e i q. count-zero (a .count) (slotNull a m) (eqb-true nulls 0 (not-false (eqb nulls 0) e)) i q)
 
-      go : (t : Bool) → leb 3 route ≡ t → (u : Bool) → eqb route 0 ≡ u
-          → Marks (a .count) missing (withWords
-          (record { nulls = cond (cond t (not (eqb nulls 0)) (not u)) nulls 0; refusal = 0; route = route; present = cond t (not (eqb nulls 0)) (not u) })
-          (cond u out (written (a .count) (slotNull a m) out)))
-      go true te true ue = absurd (omega (arith, leb-true 3 route te, eqb-true route 0 ue))
-      go true te false ue =
-          marks-with (not (eqb nulls 0)) route (written (a .count) (slotNull a m) out) (λ e i q. written-bit (a .count) (slotNull a m) out i q)
-          (λ e i q. count-zero (a .count) (slotNull a m) (eqb-true nulls 0 (not-false (eqb nulls 0) e)) i q)
-      go false te true ue = marks-with false route out (λ e. absurd (false≢true e)) (λ e. h (eqb-true route 0 ue))
-      go false te false ue =
-          marks-with true route (written (a .count) (slotNull a m) out) (λ e i q. written-bit (a .count) (slotNull a m) out i q) (λ e. absurd (false≢true (sym e)))
+  -- the mask is there
+  by-words : (route : ℕ) (out : List ℕ)
+      → Marks (a .count) missing (masked (record { nulls = count (a .count) (slotNull a m); refusal = 0; route = route; present = true }) (written (a .count) (slotNull a m) out))
+  by-words route out =
+      marks-with true route (written (a .count) (slotNull a m) out) (λ e i q. written-bit (a .count) (slotNull a m) out i q) (λ e. absurd (false≢true (sym e)))
+
+  marks-on : (route : Route) (out : List ℕ) → (isAbsent route ≡ true → (i : ℕ) → i < a .count → slotNull a m i ≡ false) → Marks (a .count) missing (maskedBy a m route out)
+  unfolding maskedBy
+  marks-on Absent out h = marks-with false 0 out (λ e. absurd (false≢true e)) (λ e. h refl)
+  marks-on OneField out h = by-words 1 out
+  marks-on AllNull out h = by-words 2 out
+  marks-on routeGather out h = by-nulls 3 out
+  marks-on routeSkipOne out h = by-nulls 4 out
+  marks-on routeSkipWithout out h = by-nulls 5 out
+  marks-on routeSkipFully out h = by-nulls 6 out
 
   -- route 0 is taken only where nothing is null
   slot-free : (p : Column → Bool) → all p (inUse a) ≡ true → ((c : Column) (t : ℕ) → p c ≡ true → t < c .slots → not (present c m t) ≡ false)
       → (i : ℕ) → i < a .count → slotNull a m i ≡ false
   unfolding slotNull
-  slot-free p e f i q = no-null m (a .layout) (inUse a) (a .count) i (typeIdAt a m i) (offsetAt a m i) ((accepted a (amountsOf m) g) .equal) q ((slots i q) .inside) p e f
+  slot-free p e f i q = no-null m (a .layout) (inUse a) (a .count) i (typeIdAt a m i) (offsetAt a m i) ((accepted a m g) .equal) q ((slots i q) .inside) p e f
 
   unmasked : all (λ c. not (c .masked)) (inUse a) ≡ true → (i : ℕ) → i < a .count → slotNull a m i ≡ false
   unfolding present
@@ -155,22 +147,22 @@ module _ (a : UnionArray) (m : Buffers) (g : asked a (amountsOf m) ≡ 0) (missi
       slot-free (λ c. not (hasNull m c)) (none-has (hasNull m) (inUse a) e)
       (λ c t p w. count-zero (c .slots) (λ s. not (present c m s)) (eqb-true (nullsIn c m) 0 (not-false (eqb (nullsIn c m) 0) (not-true (not (eqb (nullsIn c m) 0)) p))) t w)
 
-  route-zero : (cost : ℕ) → routeOf a m cost ≡ 0 → (i : ℕ) → i < a .count → slotNull a m i ≡ false
+  route-zero : (cost : ℕ) → isAbsent (routeOf a m cost) ≡ true → (i : ℕ) → i < a .count → slotNull a m i ≡ false
   unfolding routeOf
   route-zero cost e =
       go (leb (a .fields) 1) (all (λ c. not (c .masked)) (inUse a)) refl (eqb (withNulls a m) 0) refl (eqb (fullyNulls a m) (a .fields)) (a .layout) e
     where
-      many : ℕ
+      many : Route
       many = sparseRoute cost (a .fields) (withNulls a m) (fullyNulls a m)
 
       go : (t u : Bool) → all (λ c. not (c .masked)) (inUse a) ≡ u → (w : Bool) → eqb (withNulls a m) 0 ≡ w → (x : Bool) (l : Layout)
-          → cond t (cond u 0 1) (cond w 0 (cond x 2 (byLayout l many 3))) ≡ 0 → (i : ℕ) → i < a .count → slotNull a m i ≡ false
+          → isAbsent (cond t (cond u Absent OneField) (cond w Absent (cond x AllNull (byLayout l many routeGather)))) ≡ true → (i : ℕ) → i < a .count → slotNull a m i ≡ false
       go true true ue w we x l q = unmasked ue
-      go true false ue w we x l q = absurd (omega arith)
+      go true false ue w we x l q = absurd (false≢true q)
       go false u ue true we x l q = nothing (eqb-true (withNulls a m) 0 we)
-      go false u ue false we true l q = absurd (omega arith)
-      go false u ue false we false Dense q = absurd (omega arith)
-      go false u ue false we false Sparse q = absurd (sparse-route cost (a .fields) (withNulls a m) (fullyNulls a m) q)
+      go false u ue false we true l q = absurd (false≢true q)
+      go false u ue false we false Dense q = absurd (false≢true q)
+      go false u ue false we false Sparse q = absurd (false≢true (sym (sparse-is (λ r. isAbsent r ≡ false) refl refl refl refl cost (a .fields) (withNulls a m) (fullyNulls a m)) ∙ q))
 
   pub passes : checked a m ≡ 0
   unfolding checked question7 question8
@@ -189,8 +181,8 @@ module _ (a : UnionArray) (m : Buffers) (g : asked a (amountsOf m) ≡ 0) (missi
   unfolding strategyOf
   strategy-marks s out q w = rw (passes, q, le-leb _ _ w) (marks-on (strategyRoute s) out (λ e. absurd (never s e)))
     where
-      never : (s : SparseStrategy) → strategyRoute s ≡ 0 → ⊥
-      never Gather e = omega arith
-      never SkipOne e = omega arith
-      never SkipWithoutNulls e = omega arith
-      never SkipFullyNull e = omega arith
+      never : (s : SparseStrategy) → isAbsent (strategyRoute s) ≡ true → ⊥
+      never Gather e = false≢true e
+      never SkipOne e = false≢true e
+      never SkipWithoutNulls e = false≢true e
+      never SkipFullyNull e = false≢true e

@@ -5,14 +5,14 @@ use mathlib.Core.Logic.{inr}
 use mathlib.Core.Path.{_≡_, ap, refl}
 use Prim.Native.Nat.{ℕ, _-_}
 use native.Mathlib.Omega.{arith}
-use Rattle.union_array.specs.Buffers.{Buffers}
-use Rattle.union_array.specs.declared.Kind.{Kind}
+use Rattle.bitmap.proofs.Tables.{both}
+use Rattle.array_columns.specs.Buffers.{Buffers}
+use Rattle.array_columns.specs.declared.Kind.{Kind}
 use Rattle.union_builder.specs.Append.{appendWith}
 use Rattle.union_builder.specs.Finish.{finishOf}
 use Rattle.union_history.specs.Claim as Claim
 use Rattle.union_history.specs.Claim.{Call, EndsRight, LentRight, Proper, State, after, reply, step}
 use Rattle.union_history.specs.Premise.{Ask, FinishLast, PremiseMet, PremiseMetOn, append, append-mut, append-null, finish, finish-cloned, goesOn, inTurn, isFinish, len, lending}
-use Rattle.union_history.proofs.Yes.{and-l, and-r}
 use Rattle.union_history.proofs.Agree.{agree-refl}
 
 own-memory : (s : State) (q : Ask) → LentRight s (lending (s .buffers) q)
@@ -45,8 +45,8 @@ no-finish false n e = false≢true e
 without-finish : (s : State) (qs : List Ask) → goesOn qs ≡ true → FinishLast s qs
 without-finish s [] e = tt
 without-finish s (q ∷ qs) e = (
-  λ f r. absurd (no-finish (isFinish q) (and-l (not (isFinish q)) (goesOn qs) e) f),
-  without-finish (after s (lending (s .buffers) q)) qs (and-r (not (isFinish q)) (goesOn qs) e),
+  λ f r. absurd (no-finish (isFinish q) (both (not (isFinish q)) (goesOn qs) e .0) f),
+  without-finish (after s (lending (s .buffers) q)) qs (both (not (isFinish q)) (goesOn qs) e .1),
 )
 
 -- an append ends no list

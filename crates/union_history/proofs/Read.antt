@@ -12,32 +12,32 @@ use lib.ListN.{getD, length, length-map, replicate}
 use lib.Seq.{take-at, take-take}
 use borrow.Author.Tests.{le-leb, lt-ltb}
 use Rattle.bitmap.specs.Bits.{bitAt, wordsFor}
-use Rattle.union_array.specs.Buffers.{Buffers, amountsOf}
+use Rattle.array_columns.specs.Buffers.{Buffers, amountsOf}
 use Rattle.union_array.specs.Lookup.{childOf, columnValue, padded, typeIdOf, valueOf, valueOffsetOf}
 use Rattle.union_array.specs.Questions.{asked, columnIn, partIn, question1, question3, question4, question5, question6, slotChecked, validId}
-use Rattle.union_array.specs.Refusal.{ifYes}
+use Rattle.array_columns.specs.Refusal.{ifYes}
 use Rattle.union_array.specs.Slots.{all, childAt, columnOf, inUse, isSome, offsetAt, present, slotAt, typeIdAt}
 use Rattle.union_array.specs.Types.{byLayout, noColumn}
-use Rattle.union_array.specs.declared.Column.{Column}
-use Rattle.union_array.specs.declared.Layout.{Layout}
-use Rattle.union_array.specs.declared.Layout.the-variants.{Dense, Sparse}
+use Rattle.array_columns.specs.declared.Column.{Column}
+use Rattle.array_columns.specs.declared.Layout.{Layout}
+use Rattle.array_columns.specs.declared.Layout.the-variants.{Dense, Sparse}
 use Rattle.union_array.specs.declared.UnionArray.{UnionArray}
-use Rattle.union_array.specs.declared.Value.{Value}
+use Rattle.array_columns.specs.declared.Value.{Value}
 use Rattle.logical_nulls.specs.Mask.{logicalNullsOf, strategyOf}
-use Rattle.builder_columns.specs.declared.BuilderColumn.{BuilderColumn}
 use Rattle.union_builder.specs.Append.{isNone, orElse}
-use Rattle.union_builder.specs.Finish.{Named, assembled, ordered}
+use Rattle.batch_description.specs.Description.{Named, assembled, ordered}
 use Rattle.union_history.specs.Claim.{ChainAccepted, Marks, SameColumn, Shows, SliceCall, chain, entryMissing, entrySlot, entryValue, lastCount, logArray, logColumn, maskOf, nameTold, slotSum, slotsOf, sumOf}
 use Rattle.union_history.specs.Listing.{InOrder}
-use Rattle.union_history.specs.Log.{Entry, Log, LogColumn, noEntry, noLogColumn}
-use Rattle.union_history.proofs.Yes.{and-both}
+use Rattle.union_history.specs.Log.{Entry, Log, LogColumn, columnAt, noEntry}
+use Rattle.union_history.proofs.Lists.{and-both}
 use Rattle.union_history.proofs.Stores.{mask-room}
 use Rattle.union_history.proofs.Counts.{countOf-before, countOf-rise, eqb-same}
-use Rattle.union_history.proofs.Inv.{Counted, Held, Holds, Limits, logOf, ownSlot}
-use Rattle.union_history.proofs.Step.{Lent, slotsOf-le}
+use Rattle.union_history.proofs.Batch.{Batch, Counted, Held, Holds, ownSlot}
+use Rattle.union_history.proofs.Step.{Enough, slotsOf-le}
 use Rattle.union_history.proofs.Order.{columnsOf, ordered-all, ordered-column, ordered-distinct, ordered-length}
+use Rattle.union_array.proofs.Accepted.{Yes, all-yes}
 use Rattle.union_array.proofs.SlicedSlots.{told, value-told}
-use Rattle.union_history.proofs.Slices.{Yes, all-yes, chain-asked, chain-count, chain-in-order, chain-layout, chain-offsets, chain-start, chain-value, slice-accepted}
+use Rattle.union_history.proofs.Slices.{chain-asked, chain-count, chain-in-order, chain-layout, chain-offsets, chain-start, chain-value, slice-accepted}
 use Rattle.union_history.proofs.Sorted.{assembled-in-order}
 use Rattle.union_history.proofs.Sums.{slots-sum}
 use Rattle.union_history.proofs.Nulls.{Slot, mask-marks, passes, slot-of, slot-passes, strategy-marks}
@@ -112,13 +112,24 @@ slot-rise Dense es o i j h q e =
     let w : o + i < o + j = omega arith in
     rw e (countOf-rise ((getD es (o + j) noEntry) .id) (o + i) (o + j) es w q e)
 
-module _ (l : Layout) (C K : ℕ) (cols : List LogColumn) (es : List Entry) (cs : List BuilderColumn) (m : Buffers)
-    (lim : Limits C K) (inv : Counted l C K cols es cs) (hold : Holds l C m cols es) (lent : Lent C K m) where
+module _ (t : Batch) (m : Buffers) (inv : Counted t) (hold : Holds t m) (lent : Enough t m) where
+  abbrev l : Layout
+  l = t .layout
+
   abbrev bk : Log
-  bk = logOf C K cols es
+  bk = t .log
+
+  abbrev cols : List LogColumn
+  cols = t .log .columns
+
+  abbrev es : List Entry
+  es = t .log .entries
+
+  abbrev C : ℕ
+  C = t .log .capacity
 
   abbrev row : ℕ → Named
-  row k = record { name = (getD cols k noLogColumn) .name; column = logColumn l bk k }
+  row k = record { name = (columnAt cols k) .name; column = logColumn l bk k }
 
   abbrev ch : List Column
   ch = columnsOf (ordered (length cols) row)
@@ -129,10 +140,10 @@ module _ (l : Layout) (C K : ℕ) (cols : List LogColumn) (es : List Entry) (cs 
   parts : (k : ℕ) → k < length cols → columnIn (amountsOf m) (logColumn l bk k) ≡ true
   unfolding columnIn
   parts k h =
-      let n : ℕ = length ((getD cols k noLogColumn) .name) in
+      let n : ℕ = length ((columnAt cols k) .name) in
       let s : ℕ = slotsOf l k es in
       let n32 : n ≤ 32 = inv .nameFits k h in
-      let kk : k < K = omega (arith, inv .countFits) in
+      let kk : k < bk .limit = omega (arith, inv .countFits) in
       let sc : s ≤ C = omega (arith, slotsOf-le l k es, inv .lenFits) in
       let w₁ : 32 * k + n ≤ length (m .names) = omega (arith, lent .names) in
       let w₃ : k * C + s ≤ length (m .values) = omega (arith, mul-le-mul-right C kk, lent .values) in
@@ -145,18 +156,18 @@ module _ (l : Layout) (C K : ℕ) (cols : List LogColumn) (es : List Entry) (cs 
   unfolding logArray assembled
   in-use = take-at ch (replicate (128 - length cols) noColumn) (length cols) (length-map (ordered (length cols) row) (λ c. c .column) ∙ ordered-length (length cols) row)
 
-  yes-all : Yes (logArray l bk) (amountsOf m)
+  yes-all : Yes (logArray l bk) m
   unfolding logArray assembled question1 question3 question4 question5 question6
   yes-all =
       let n : ℕ = length es in
-      let w : length cols ≤ 128 = (omega (arith, inv .countFits, lim .mostRoom)) in
+      let w : length cols ≤ 128 = (omega (arith, inv .countFits, inv .limits .mostRoom)) in
       let w₁ : 0 + n ≤ length (m .ids) = omega (arith, inv .lenFits, lent .ids) in
       let w₂ : n ≤ length (m .offsets) = omega (arith, inv .lenFits, lent .offsets) in
-      let w₄ : n ≤ 65536 = omega (arith, inv .lenFits, lim .mostSlots) in
+      let w₄ : n ≤ 65536 = omega (arith, inv .lenFits, inv .limits .mostSlots) in
       record {
         q1 = rw in-use (and-both (leb (length cols) 128) _ (le-leb _ _ w)
             (and-both (all (λ c. validId (c .id)) ch) _
-            (ordered-all (λ c. validId (c .id)) (length cols) row (λ k h. let q : k < 128 = omega (arith, inv .countFits, lim .mostRoom) in lt-ltb _ _ q))
+            (ordered-all (λ c. validId (c .id)) (length cols) row (λ k h. let q : k < 128 = omega (arith, inv .countFits, inv .limits .mostRoom) in lt-ltb _ _ q))
             (ordered-distinct row own (length cols))));
         q2 = eqb-same (length cols);
         q3 = rw in-use (and-both (partIn 0 n (length (m .ids))) _ (le-leb _ _ w₁)
@@ -168,17 +179,17 @@ module _ (l : Layout) (C K : ℕ) (cols : List LogColumn) (es : List Entry) (cs 
         q6 = rw in-use (slots-in l es (length cols) row (λ k. refl));
       }
 
-  good : asked (logArray l bk) (amountsOf m) ≡ 0
-  good = all-yes (logArray l bk) (amountsOf m) yes-all
+  good : asked (logArray l bk) m ≡ 0
+  good = all-yes (logArray l bk) m yes-all
 
   column-entry : (i : ℕ) → i < length es → columnValue (logColumn l bk ((getD es i noEntry) .id)) m (ownSlot l es i) ≡ entryValue (getD es i noEntry)
   unfolding columnValue present
   column-entry i h =
       let e : Entry = getD es i noEntry in
       let s : ℕ = ownSlot l es i in
-      let q : Held l C m cols i e s = hold .held i h in
-      let nm : (getD cols (e .id) noLogColumn) .name ≡ e .name = ap (λ (c : LogColumn). c .name) (q .named) in
-      let kd : (getD cols (e .id) noLogColumn) .kind ≡ e .kind = ap (λ (c : LogColumn). c .kind) (q .named) in
+      let q : Held t m i e s = hold .held i h in
+      let nm : (columnAt cols (e .id)) .name ≡ e .name = q .isName in
+      let kd : (columnAt cols (e .id)) .kind ≡ e .kind = q .isKind in
       let at : 64 * (e .id * wordsFor C) + 0 + s ≡ e .id * (64 * wordsFor C) + s = omega arith in
       let pr : (not (maskOf l (e .id) es) || bitAt (m .masks) (64 * (e .id * wordsFor C) + 0 + s)) ≡ isSome (e .value)
       = present-is (e .value) (maskOf l (e .id) es) (bitAt (m .masks) (64 * (e .id * wordsFor C) + 0 + s)) (ap (bitAt (m .masks)) at ∙ q .bit) (null-there l es i h) in
@@ -190,7 +201,7 @@ module _ (l : Layout) (C K : ℕ) (cols : List LogColumn) (es : List Entry) (cs 
   unfolding logArray assembled
   read i h =
       let e : Entry = getD es i noEntry in
-      let q : Held l C m cols i e (ownSlot l es i) = hold .held i h in
+      let q : Held t m i e (ownSlot l es i) = hold .held i h in
       let c : childAt (logArray l bk) m i ≡ some (logColumn l bk (e .id))
       = ap (λ (x : List Column). columnOf x (getD (m .ids) (0 + i) (pos 0))) in-use ∙ ap (λ (x : ℕ). columnOf ch (getD (m .ids) x (pos 0))) (zero-add i)
       ∙ ap (λ (z : ℤ). columnOf ch z) (q .isId) ∙ ordered-column row own (length cols) (e .id) (q .known) in
@@ -221,28 +232,25 @@ module _ (l : Layout) (C K : ℕ) (cols : List LogColumn) (es : List Entry) (cs 
   in-order = assembled-in-order l (length es) (length cols) row m own (λ j h. hold .name j h)
 
   -- ---- of two entries
-  abbrev columnOfEntry : Entry → LogColumn
-  columnOfEntry e = record { name = e .name; kind = e .kind }
-
   told-name : (i : ℕ) → i < length es → nameTold (entryValue (getD es i noEntry)) ≡ (getD es i noEntry) .name
   unfolding padded
   told-name i h =
       let e : Entry = getD es i noEntry in
-      let q : Held l C m cols i e (ownSlot l es i) = hold .held i h in
-      let f : length (e .name) ≤ 32 = subst (λ (c : LogColumn). length (c .name) ≤ 32) (q .named) (inv .nameFits (e .id) (q .known)) in
+      let q : Held t m i e (ownSlot l es i) = hold .held i h in
+      let f : length (e .name) ≤ 32 = subst (λ (x : List ℕ). length x ≤ 32) (q .isName) (inv .nameFits (e .id) (q .known)) in
       take-take (length (e .name)) 32 (e .name ++ replicate 32 0) f ∙ take-at (e .name) (replicate 32 0) (length (e .name)) refl
 
   same-column : (i j : ℕ) → i < length es → j < length es → SameColumn (entryValue (getD es i noEntry)) (entryValue (getD es j noEntry))
   same-column i j h g =
-      let p : Held l C m cols i (getD es i noEntry) (ownSlot l es i) = hold .held i h in
-      let q : Held l C m cols j (getD es j noEntry) (ownSlot l es j) = hold .held j g in
-      let column : pos ((getD es i noEntry) .id) ≡ pos ((getD es j noEntry) .id) → columnOfEntry (getD es i noEntry) ≡ columnOfEntry (getD es j noEntry)
-      = λ e. sym (p .named) ∙ ap (λ (k : ℕ). getD cols k noLogColumn) (cc) ∙ q .named in
+      let p : Held t m i (getD es i noEntry) (ownSlot l es i) = hold .held i h in
+      let q : Held t m j (getD es j noEntry) (ownSlot l es j) = hold .held j g in
+      let same : pos ((getD es i noEntry) .id) ≡ pos ((getD es j noEntry) .id) → columnAt cols ((getD es i noEntry) .id) ≡ columnAt cols ((getD es j noEntry) .id)
+      = λ e. ap (λ (k : ℕ). columnAt cols k) (cc) in
       record {
-        byId = λ e. told-name i h ∙ ap (λ (c : LogColumn). c .name) (column e) ∙ sym (told-name j g);
+        byId = λ e. told-name i h ∙ sym (p .isName) ∙ ap (λ (c : LogColumn). c .name) (same e) ∙ q .isName ∙ sym (told-name j g);
         byName = λ e. ap pos (inv .apart ((getD es i noEntry) .id) ((getD es j noEntry) .id) (p .known) (q .known)
-            (ap (λ (c : LogColumn). c .name) (p .named) ∙ sym (told-name i h) ∙ e ∙ told-name j g ∙ sym (ap (λ (c : LogColumn). c .name) (q .named))));
-        kind = λ e. ap (λ (c : LogColumn). c .kind) (column e);
+            (p .isName ∙ sym (told-name i h) ∙ e ∙ told-name j g ∙ sym (q .isName)));
+        kind = λ e. sym (p .isKind) ∙ ap (λ (c : LogColumn). c .kind) (same e) ∙ q .isKind;
       }
 
   -- ---- the columns
@@ -270,8 +278,8 @@ module _ (l : Layout) (C K : ℕ) (cols : List LogColumn) (es : List Entry) (cs 
     part-count : part .count ≡ n
     part-count = chain-count (logArray l bk) ps k ∙ ap (λ (x : ℕ). lastCount x ps) log-count
 
-    part-good : asked part (amountsOf m) ≡ 0
-    part-good = chain-asked (logArray l bk) (amountsOf m) ps good k
+    part-good : asked part m ≡ 0
+    part-good = chain-asked (logArray l bk) m ps good k
 
     part-in : (i : ℕ) → i < part .count → sumOf ps + i < length es
     part-in i h = rw log-count at ((chain-value (logArray l bk) m ps i good k h) .0)

@@ -1,5 +1,4 @@
 -- Chains of slices: what an array accepted in some memory shows through them.
-use mathlib.Core.Bool.{true}
 use mathlib.Core.List.{List, [], _++_, _∷_, map}
 use mathlib.Core.Logic.{inl, inr}
 use mathlib.Core.Path.{_∙_, _≡_, ap, refl, subst, sym}
@@ -10,46 +9,32 @@ use lib.Dec.{leb}
 use lib.IntN.{natAbs}
 use lib.ListN.{drop, getD, take}
 use borrow.Author.Tests.{le-leb, leb-true}
-use Rattle.union_array.specs.Buffers.{Buffers, amountsOf}
+use Rattle.array_columns.specs.Buffers.{Buffers}
 use Rattle.union_array.specs.Lookup.{valueOf}
-use Rattle.union_array.specs.Questions.{asked, question1, question2, question3, question4, question5, question6}
-use Rattle.union_array.specs.Refusal.{no}
+use Rattle.union_array.specs.Questions.{asked}
+use Rattle.array_columns.specs.Refusal.{no}
 use Rattle.union_array.specs.Slices.{movedColumn, sliceChecked, sliceOf, sliced}
 use Rattle.union_array.specs.Types.{byLayout, noColumn}
-use Rattle.union_array.specs.declared.Amounts.{Amounts}
-use Rattle.union_array.specs.declared.Column.{Column}
-use Rattle.union_array.specs.declared.Layout.{Layout}
-use Rattle.union_array.specs.declared.Layout.the-variants.{Dense, Sparse}
+use Rattle.array_columns.specs.declared.Column.{Column}
+use Rattle.array_columns.specs.declared.Layout.{Layout}
+use Rattle.array_columns.specs.declared.Layout.the-variants.{Dense, Sparse}
 use Rattle.union_array.specs.declared.UnionArray.{UnionArray}
 use Rattle.union_array.proofs.Accepted.{accepted}
 use Rattle.union_array.proofs.SlicedSlots.{sliced-asked, sliced-count, sliced-value}
+use Rattle.array_columns.proofs.Tests.{then-zero, yes-is}
 use Rattle.union_history.specs.Claim.{ChainAccepted, SliceCall, chain, lastCount, sliceBy, sumOf}
 use Rattle.union_history.specs.Listing.{InOrder, ListedBefore, nameIn}
-use Rattle.union_history.proofs.Yes.{then-rest, yes-last}
-
--- questions 1 to 6, each answered yes
-pub record Yes (a : UnionArray) (lent : Amounts) : Type 0 where
-  pub q1 : question1 a ≡ true
-  pub q2 : question2 a ≡ true
-  pub q3 : question3 a lent ≡ true
-  pub q4 : question4 a ≡ true
-  pub q5 : question5 a ≡ true
-  pub q6 : question6 a ≡ true
-
-pub all-yes : (a : UnionArray) (lent : Amounts) → Yes a lent → asked a lent ≡ 0
-unfolding asked
-all-yes a lent g = rw (g .q1, g .q2, g .q3, g .q4, g .q5, g .q6)
 
 slice-fits : (a : UnionArray) (m : Buffers) (o n : ℕ) → sliceChecked a m o n ≡ 0 → o + n ≤ a .count
 unfolding sliceChecked
-slice-fits a m o n e = leb-true (o + n) (a .count) (yes-last 8 (leb (o + n) (a .count)) (then-rest (asked a (amountsOf m)) (no 9 (leb (o + n) (a .count))) e))
+slice-fits a m o n e = leb-true (o + n) (a .count) (yes-is 8 (leb (o + n) (a .count)) (then-zero (asked a m) (no 9 (leb (o + n) (a .count))) e .1))
 
 slice-is : (a : UnionArray) (m : Buffers) (o n : ℕ) → (sliceOf a m o n) .refusal ≡ 0 → (o + n ≤ a .count) × ((sliceOf a m o n) .array ≡ sliced a o n)
 unfolding sliceOf
 slice-is a m o n e = (slice-fits a m o n e, rw e)
 
 -- a slice within an accepted array is accepted
-pub slice-accepted : (a : UnionArray) (m : Buffers) (o n : ℕ) → asked a (amountsOf m) ≡ 0 → o + n ≤ a .count → (sliceOf a m o n) .refusal ≡ 0
+pub slice-accepted : (a : UnionArray) (m : Buffers) (o n : ℕ) → asked a m ≡ 0 → o + n ≤ a .count → (sliceOf a m o n) .refusal ≡ 0
 unfolding sliceOf sliceChecked
 slice-accepted a m o n g h = rw (g, le-leb _ _ h)
 
@@ -60,19 +45,19 @@ chain-count a (c ∷ cs) k =
     ∙ ap (λ (x : UnionArray). lastCount (x .count) cs) ((slice-is a (c .lent) (c .from) (c .count) (k .0)) .1) ∙ ap (λ (n : ℕ). lastCount n cs) (sym (sliced-count a (c .from) (c .count)))
 
 -- what a slice was lent is nothing to the memory that it is read in
-slice-asked : (a : UnionArray) (lent : Amounts) (c : SliceCall) → asked a lent ≡ 0 → (sliceBy a c) .refusal ≡ 0 → asked ((sliceBy a c) .array) lent ≡ 0
-slice-asked a lent c g e = let s = slice-is a (c .lent) (c .from) (c .count) e in rw (s .1) (sliced-asked a lent (c .from) (c .count) (accepted a lent g) (s .0))
+slice-asked : (a : UnionArray) (m : Buffers) (c : SliceCall) → asked a m ≡ 0 → (sliceBy a c) .refusal ≡ 0 → asked ((sliceBy a c) .array) m ≡ 0
+slice-asked a m c g e = let s = slice-is a (c .lent) (c .from) (c .count) e in rw (s .1) (sliced-asked a m (c .from) (c .count) (accepted a m g) (s .0))
 
-pub chain-asked : (a : UnionArray) (lent : Amounts) (cs : List SliceCall) → asked a lent ≡ 0 → ChainAccepted a cs → asked (chain a cs) lent ≡ 0
-chain-asked a lent [] g k = g
-chain-asked a lent (c ∷ cs) g k = chain-asked ((sliceBy a c) .array) lent cs (slice-asked a lent c g (k .0)) (k .1)
+pub chain-asked : (a : UnionArray) (m : Buffers) (cs : List SliceCall) → asked a m ≡ 0 → ChainAccepted a cs → asked (chain a cs) m ≡ 0
+chain-asked a m [] g k = g
+chain-asked a m (c ∷ cs) g k = chain-asked ((sliceBy a c) .array) m cs (slice-asked a m c g (k .0)) (k .1)
 
-pub chain-value : (a : UnionArray) (m : Buffers) (cs : List SliceCall) (i : ℕ) → asked a (amountsOf m) ≡ 0 → ChainAccepted a cs → i < (chain a cs) .count
+pub chain-value : (a : UnionArray) (m : Buffers) (cs : List SliceCall) (i : ℕ) → asked a m ≡ 0 → ChainAccepted a cs → i < (chain a cs) .count
     → (sumOf cs + i < a .count) × (valueOf (chain a cs) m i ≡ valueOf a m (sumOf cs + i))
 chain-value a m [] i g k h = (omega arith, rw (zero-add i))
 chain-value a m (c ∷ cs) i g k h =
     let s = slice-is a (c .lent) (c .from) (c .count) (k .0) in
-    let r = chain-value ((sliceBy a c) .array) m cs i (slice-asked a (amountsOf m) c g (k .0)) (k .1) h in
+    let r = chain-value ((sliceBy a c) .array) m cs i (slice-asked a m c g (k .0)) (k .1) h in
     let q : sumOf cs + i < c .count = rw (s .1, sym (sliced-count a (c .from) (c .count))) at (r .0) in
     let w : sumOf (c ∷ cs) + i < a .count = omega (arith, s .0) in (
       w,

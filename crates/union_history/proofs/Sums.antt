@@ -8,7 +8,7 @@ use lib.Dec.{eqb}
 use lib.ListN.{getD, length}
 use borrow.Author.Tests.{eqb-false, eqb-true}
 use Rattle.union_names.specs.Names.{nameUpTo}
-use Rattle.union_builder.specs.Finish.{Named, insert, ordered}
+use Rattle.batch_description.specs.Description.{Named, insert, ordered}
 use Rattle.union_history.specs.Claim.{countOf, slotSum}
 use Rattle.union_history.specs.Log.{Entry, noEntry}
 use Rattle.union_history.proofs.Order.{columnsOf}

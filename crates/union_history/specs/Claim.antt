@@ -7,32 +7,34 @@ use mathlib.Core.Bool.{Bool, true, false, cond, _&&_, _||_, not}
 use mathlib.Core.Option.{Option, none, some}
 use mathlib.Core.List.{List, [], _∷_, map}
 use Prim.Native.Nat.{ℕ, suc, _+_, _*_, _≤_, _<_}
-use lib.ListN.{length, getD, take}
+use lib.ListN.{length, take}
 use lib.Dec.{eqb}
 use lib.IntN.{pos}
 use Rattle.bitmap.specs.Bits.{bitAt, count, wordsFor}
-use Rattle.union_array.specs.declared.Column.{Column}
-use Rattle.union_array.specs.declared.Kind.{Kind}
-use Rattle.union_array.specs.declared.Layout.{Layout}
-use Rattle.union_array.specs.declared.Layout.the-variants.{Sparse, Dense}
+use Rattle.array_columns.specs.declared.Column.{Column}
+use Rattle.array_columns.specs.declared.Kind.{Kind}
+use Rattle.array_columns.specs.declared.Layout.{Layout}
+use Rattle.array_columns.specs.declared.Layout.the-variants.{Sparse, Dense}
 use Rattle.union_array.specs.declared.UnionArray.{UnionArray}
-use Rattle.union_array.specs.declared.Value.{Value}
+use Rattle.array_columns.specs.declared.Value.{Value}
 use Rattle.union_array.specs.declared.Slice.{Slice}
 use Rattle.union_array.specs.Types.{byLayout}
-use Rattle.union_array.specs.Buffers.{Buffers, amountsOf}
-use Rattle.union_array.specs.Refusal.{ifYes}
+use Rattle.array_columns.specs.Buffers.{Buffers, amountsOf}
+use Rattle.array_columns.specs.Refusal.{ifYes}
 use Rattle.union_array.specs.Slots.{inUse}
 use Rattle.union_array.specs.Lookup.{tryNewOf, valueOf, typeIdOf, valueOffsetOf, childOf, padded}
 use Rattle.union_array.specs.Slices.{sliceOf}
 use Rattle.logical_nulls.specs.declared.SparseStrategy.{SparseStrategy}
 use Rattle.logical_nulls.specs.Mask.{Masked, question14, logicalNullsOf, strategyOf}
+use Rattle.builder_columns.specs.declared.BuilderColumn.{BuilderColumn}
 use Rattle.union_builder.specs.declared.UnionBuilder.{UnionBuilder}
 use Rattle.union_builder.specs.declared.Finished.{Finished}
 use Rattle.union_builder.specs.Builder.{madeOf}
 use Rattle.union_builder.specs.Append.{AppendOutcome, isNone, orElse, appendOf, appendNullOf}
-use Rattle.union_builder.specs.Finish.{assembled, lenOf, finishClonedOf, finishOf}
+use Rattle.batch_description.specs.Description.{assembled, describedColumn}
+use Rattle.union_builder.specs.Finish.{lenOf, finishClonedOf, finishOf}
 use Rattle.union_history.specs.Log as Log
-use Rattle.union_history.specs.Log.{Log, Entry, Fed, LogReply, noLogColumn, entryAt, logReplies}
+use Rattle.union_history.specs.Log.{Log, LogColumn, Entry, Fed, LogReply, columnAt, entryAt, freshLog, logReplies}
 use Rattle.union_history.specs.Listing.{InOrder}
 
 -- ---- 1. The calls
@@ -174,24 +176,22 @@ abbrev pub maskOf : Layout → ℕ → List Entry → Bool
 maskOf l k [] = false
 maskOf l k (e ∷ es) = nullPut l k e || maskOf l k es
 
+-- what a builder has of a column of the log, with so many slots, masked or not
+abbrev pub built : LogColumn → ℕ → Bool → BuilderColumn
+built c slots masked = record { slots = slots; size = length (c .name); kind = c .kind; masked = masked }
+
+-- column k of the log's builder
+abbrev pub builtColumn : Layout → Log → ℕ → BuilderColumn
+builtColumn l g k = built (columnAt (g .columns) k) (slotsOf l k (g .entries)) (maskOf l k (g .entries))
+
 -- "Column k has words kC to kC + C - 1, its own mask words (C divided by 64, rounded up), and 32 name bytes, each laid in column order."
 abbrev pub logColumn : Layout → Log → ℕ → Column
-logColumn l g k = record {
-  values = k * g .capacity;
-  mask = k * wordsFor (g .capacity);
-  name = 32 * k;
-  slots = slotsOf l k (g .entries);
-  bit = 0;
-  size = length ((getD (g .columns) k noLogColumn) .name);
-  id = pos k;
-  kind = (getD (g .columns) k noLogColumn) .kind;
-  masked = maskOf l k (g .entries);
-}
+logColumn l g k = describedColumn (builtColumn l g k) k (g .capacity)
 
 -- finished columns ordered by their names' bytes (`assembled`); "has as many slots as there were entries at its call"
 unfoldable pub logArray : Layout → Log → UnionArray
 logArray l g =
-    assembled l (length (g .entries)) (length (g .columns)) (λ k. record { name = (getD (g .columns) k noLogColumn) .name; column = logColumn l g k })
+    assembled l (length (g .entries)) (length (g .columns)) (λ k. record { name = (columnAt (g .columns) k) .name; column = logColumn l g k })
 
 -- ---- 5. What it shows
 -- "value answers id, name (its length, and 32 bytes by value with zeros after it), kind, missing or not, and the value, 0 when missing"
@@ -311,10 +311,6 @@ AllTold l m [] [] = Unit {0}
 AllTold l m [] (n ∷ ns) = ⊥
 AllTold l m (r ∷ rs) [] = ⊥
 AllTold l m (r ∷ rs) (n ∷ ns) = Told l m r n × AllTold l m rs ns
-
--- "It keeps the making's C and K, columns (name, kind) and entries, none of either at first."
-abbrev pub freshLog : ℕ → ℕ → Log
-freshLog c k = record { capacity = c; limit = k; columns = []; entries = [] }
 
 abbrev pub start : UnionBuilder → Buffers → State
 start b m = record { builder = b; buffers = m }

@@ -5,10 +5,10 @@ use mathlib.Core.List.{List, [], _∷_}
 use Prim.Native.Nat.{ℕ, _<_}
 use lib.IntN.{natAbs}
 use lib.ListN.{getD, take, drop}
-use Rattle.union_array.specs.declared.Column.{Column}
+use Rattle.array_columns.specs.declared.Column.{Column}
 use Rattle.union_array.specs.declared.UnionArray.{UnionArray}
 use Rattle.union_array.specs.Types.{noColumn}
-use Rattle.union_array.specs.Buffers.{Buffers}
+use Rattle.array_columns.specs.Buffers.{Buffers}
 use Rattle.union_builder.specs.declared.UnionBuilder.{UnionBuilder}
 use Rattle.union_builder.specs.Finish.{finishClonedOf, finishOf}
 

@@ -3,8 +3,8 @@ use mathlib.Core.Path.{_≡_}
 use mathlib.Core.Bool.{Bool, true, false, not, _&&_}
 use mathlib.Core.List.{List, [], _∷_}
 use Prim.Native.Nat.{ℕ}
-use Rattle.union_array.specs.declared.Kind.{Kind}
-use Rattle.union_array.specs.Buffers.{Buffers}
+use Rattle.array_columns.specs.declared.Kind.{Kind}
+use Rattle.array_columns.specs.Buffers.{Buffers}
 use Rattle.union_builder.specs.Finish.{finishOf}
 use Rattle.union_history.specs.Claim as Claim
 use Rattle.union_history.specs.Claim.{Call, State, Proper, after}

@@ -1,9 +1,10 @@
 //! The calls on a batch: `try_new`, lookups, slices.
 
-use super::{Comparison, Mask, Outputs, Port, STRATEGIES, number};
+use super::{Comparison, Mask, Port, STRATEGIES, number};
 use crate::oracle::{Outcome, Union, Value};
 use crate::plain::{Batch, Case, Column};
 use crate::tally::Sort;
+use cangxole::ffi::Slots;
 
 impl<P: Port> Comparison<'_, P> {
     /// All calls on a batch, acceptable or not.
@@ -67,14 +68,26 @@ impl<P: Port> Comparison<'_, P> {
     }
 
     pub(super) fn lookups(&mut self, case: &Case, union: &Union) {
-        let (port, batch, lent) = (self.port, &case.batch, &case.lent);
-        let count = batch.count;
+        let count = case.batch.count;
         for turn in 0..count.min(150) {
             let slot = if count <= 150 { turn } else { self.random.below(count) };
             self.slot(case, union, slot);
         }
         self.values(case, union);
-        let tally = &mut self.tally;
+        self.questions(case, union);
+        self.slices(case, union);
+        for id in [-128, -1, 0, 1, 127, self.random.next() as i8] {
+            self.child(case, union, id);
+        }
+        for column in &case.batch.columns {
+            self.child(case, union, column.id);
+        }
+    }
+
+    /// Lookups past the end, and the calls that ask for no slot.
+    fn questions(&mut self, case: &Case, union: &Union) {
+        let (port, batch, lent, tally) = (self.port, &case.batch, &case.lent, &mut self.tally);
+        let count = batch.count;
         for out in [count, count + 1, usize::MAX] {
             tally.alone("10 is a panic of the original", union.value(out).sort(), "panicked");
             tally.known("panic");
@@ -92,6 +105,11 @@ impl<P: Port> Comparison<'_, P> {
         let (number, places) = port.type_names(batch, lent);
         let names = places.iter().map(|(start, size)| lent.names[*start..][..*size].to_vec()).collect();
         tally.original("type_names", (number, names), (0, union.type_names().answer().unwrap()));
+    }
+
+    fn slices(&mut self, case: &Case, union: &Union) {
+        let (port, batch, lent, tally) = (self.port, &case.batch, &case.lent, &mut self.tally);
+        let count = batch.count;
         for (start, length) in
             [(0, count), (count, 0), (count, 1), (0, count + 1), (usize::MAX, 2), (count / 2, count / 3)]
         {
@@ -104,12 +122,6 @@ impl<P: Port> Comparison<'_, P> {
             }
             tally.model("slice: description", sliced, expected);
         }
-        for id in [-128, -1, 0, 1, 127, self.random.next() as i8] {
-            self.child(case, union, id);
-        }
-        for column in &batch.columns {
-            self.child(case, union, column.id);
-        }
     }
 
     /// Runs of lookups, each slot's answer being that of `value`.
@@ -119,7 +131,7 @@ impl<P: Port> Comparison<'_, P> {
         let most = (count - first).min(70);
         for (first, length) in [(0, count.min(70)), (first, most), (first, count - first + 1), (usize::MAX, 2)] {
             let room = length.min(200) + self.random.below(3);
-            let mut out = Outputs { ids: vec![9; room], missing: vec![9; room], bits: vec![9; room] };
+            let mut out = Slots::new(room, 9);
             let mut after = out.clone();
             let whole = first.checked_add(length).is_some_and(|end| end <= count);
             let mut number = if whole { 0 } else { 10 };
@@ -140,7 +152,7 @@ impl<P: Port> Comparison<'_, P> {
             let sort = if number == 0 { Sort::Original } else { Sort::Model };
             self.tally.same(sort, "run of values", (answer, &out), (number, &after));
             if whole && length > 0 {
-                let mut few = Outputs { ids: vec![9; length], missing: vec![9; length], bits: vec![9; length] };
+                let mut few = Slots::new(length, 9);
                 match self.random.below(3) {
                     0 => drop(few.ids.pop()),
                     1 => drop(few.missing.pop()),

@@ -1,10 +1,11 @@
 //! Lists of builder calls.
 
-use super::{Comparison, Port, Reading, number};
-use crate::cases::{self, Call, Random, Script};
+use super::{Comparison, Port, number};
+use crate::cases::{self, Call, Script};
 use crate::model::Book;
 use crate::oracle::Builder;
-use crate::plain::{Batch, Case, Kind, Lent, State};
+use crate::plain::{Batch, Case, Kind, Lent, Reading, State};
+use crate::random::Random;
 
 /// Memory for a builder of C slots and K columns, somewhat more than asked, filled at random.
 pub(super) fn memory(random: &mut Random, capacity: usize, limit: usize) -> Lent {
@@ -38,7 +39,7 @@ struct Building<'s> {
     original: Builder,
     book: Book,
     lent: Lent,
-    accepted: Vec<Call>,
+    accepted: Vec<Reading>,
     mismatched: bool,
 }
 
@@ -62,8 +63,7 @@ impl<P: Port> Comparison<'_, P> {
                     self.tally.original("len", len, all.original.len());
                     self.tally.model("len: the state", state, all.book.state());
                 }
-                Call::Append { name, kind, word } => self.append(&mut all, call, (name, *kind, Some(*word)), *shortage),
-                Call::AppendNull { name, kind } => self.append(&mut all, call, (name, *kind, None), *shortage),
+                Call::Append(reading) => self.append(&mut all, reading, *shortage),
                 Call::FinishCloned => self.finish(&mut all, false, *shortage),
                 Call::Finish => self.finish(&mut all, true, *shortage),
             }
@@ -75,13 +75,15 @@ impl<P: Port> Comparison<'_, P> {
 
     /// All appends of the list at once, against one after another.
     fn run_of_appends(&mut self, script: &Script, fresh: &State, lent: &Lent) {
-        let readings: Vec<Reading> = script.calls.iter().filter_map(|(call, _)| reading(call)).collect();
+        let reading =
+            |(call, _): &(Call, _)| if let Call::Append(reading) = call { Some(reading.clone()) } else { None };
+        let readings: Vec<Reading> = script.calls.iter().filter_map(reading).collect();
         let mut refusals = vec![200; readings.len() + 1];
         let mut run = lent.clone();
         let Some(answer) = self.port.appends(fresh, &mut run, &readings, &mut refusals) else { return };
         let (mut state, mut single, mut numbers) = (fresh.clone(), lent.clone(), Vec::new());
-        for (name, kind, word) in &readings {
-            let (number, after) = self.port.append(&state, &mut single, name, *kind, *word);
+        for reading in &readings {
+            let (number, after) = self.port.append(&state, &mut single, reading);
             numbers.push(number);
             state = after;
         }
@@ -129,44 +131,44 @@ impl<P: Port> Comparison<'_, P> {
         let mut lent = all.lent.clone();
         let (port, tally) = (self.port, &mut self.tally);
         let refused = (15, Batch::empty(), state.clone());
-        let answer = port.append(&state, &mut lent, b"a", Kind::Int8, Some(1));
+        let answer = port.append(&state, &mut lent, &Reading::new(b"a", Kind::Int8, Some(1)));
         tally.model("append: 15", (answer, lent == all.lent), ((15, state.clone()), true));
-        let answer = port.append(&state, &mut lent, b"a", Kind::Int8, None);
+        let answer = port.append(&state, &mut lent, &Reading::new(b"a", Kind::Int8, None));
         tally.model("append_null: 15", (answer, lent == all.lent), ((15, state.clone()), true));
         tally.model("finish_cloned: 15", &port.finish_cloned(&state, &lent), &refused);
         tally.model("finish: 15", &port.finish(&state, &lent), &refused);
         tally.model("len asks none", port.len(&state), (state.len, state.clone()));
     }
 
-    fn append(&mut self, all: &mut Building, call: &Call, what: (&[u8], Kind, Option<u64>), shortage: Option<u8>) {
-        let (script, (name, kind, word)) = (all.script, what);
+    fn append(&mut self, all: &mut Building, reading: &Reading, shortage: Option<u8>) {
+        let script = all.script;
         let mut lent = match shortage {
             Some(part) => short(&all.lent, part, script.capacity, script.limit),
             None => all.lent.clone(),
         };
         let mut after = lent.clone();
-        let expected = all.book.append(shortage.is_none(), name, kind, word);
+        let expected = all.book.append(shortage.is_none(), reading);
         if expected == 0 {
             all.book.write_last(&mut after);
         }
-        let (answer, state) = self.port.append(&all.state, &mut lent, name, kind, word);
+        let (answer, state) = self.port.append(&all.state, &mut lent, reading);
         self.tally.met(&format!("appends with {expected}"));
         self.tally.model("append: the state", &state, &all.book.state());
         self.tally.model("append: memory written and kept", &lent, &after);
         all.state = state;
         match expected {
             0 => {
-                self.tally.original("append", answer, original_append(&mut all.original, call));
+                self.tally.original("append", answer, number(&all.original.append_reading(reading)));
                 all.lent = lent;
-                all.accepted.push(call.clone());
+                all.accepted.push(reading.clone());
             }
             18 if !all.mismatched => {
                 all.mismatched = true;
                 let mut other = Builder::with_capacity(all.book.dense, script.capacity);
-                for call in &all.accepted {
-                    original_append(&mut other, call);
+                for accepted in &all.accepted {
+                    other.append_reading(accepted);
                 }
-                self.tally.original("append: 18", answer, original_append(&mut other, call));
+                self.tally.original("append: 18", answer, number(&other.append_reading(reading)));
                 self.tally.known("kind-mismatch");
             }
             _ => self.tally.model("append: refused", answer, expected),
@@ -202,24 +204,5 @@ impl<P: Port> Comparison<'_, P> {
             let slices = cases::slices(&mut self.random, case.batch.count);
             self.chain(&case, &slices);
         }
-    }
-}
-
-/// The reading that a call appends; names that a run cannot hold are left out.
-fn reading(call: &Call) -> Option<Reading> {
-    match call {
-        Call::Append { name, kind, word } => Some((name.clone(), *kind, Some(*word))),
-        Call::AppendNull { name, kind } => Some((name.clone(), *kind, None)),
-        _ => None,
-    }
-}
-
-/// Runs an append of the original; answers its number.
-pub fn original_append(builder: &mut Builder, call: &Call) -> u8 {
-    let text = |name: &[u8]| String::from_utf8(name.to_vec()).expect("an accepted name");
-    match call {
-        Call::Append { name, kind, word } => number(&builder.append(&text(name), *kind, *word)),
-        Call::AppendNull { name, kind } => number(&builder.append_null(&text(name), *kind)),
-        _ => unreachable!(),
     }
 }

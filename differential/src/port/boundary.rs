@@ -1,9 +1,16 @@
 //! Numbers of no case: what the C interface answers where the original has no word.
 
-use super::interface::*;
 use super::{array_to, builder_to};
 use crate::plain::{Batch, Growing, Kind, Lent, State, add_column, without_columns};
 use crate::tally::{Tally, Totals};
+use cangxole::ffi;
+
+/// The struct with one change.
+fn spoiled<T: Copy>(good: &T, change: impl Fn(&mut T)) -> T {
+    let mut spoiled = *good;
+    change(&mut spoiled);
+    spoiled
+}
 
 /// Numbers that name no layout, kind, flag or strategy are answered 128, which the original has no word for, but by
 /// `len`, which asks none; numbers past the columns in use are not looked at. Answers how much was compared.
@@ -13,32 +20,26 @@ pub fn boundary() -> Totals {
     add_column(&mut case, 0, Kind::Int8, b"a", &[None], true);
     add_column(&mut case, 1, Kind::Int8, b"b", &[Some(1)], true);
     let good = array_to(&case.batch);
-    let spoiled = |change: &dyn Fn(&mut CArray)| {
-        let mut array = good;
-        change(&mut array);
-        array
-    };
     let arrays = [
-        spoiled(&|array| array.layout = 2),
-        spoiled(&|array| array.layout = 255),
-        spoiled(&|array| array.columns[0].kind = 10),
-        spoiled(&|array| array.columns[1].kind = 255),
-        spoiled(&|array| array.columns[0].masked = 2),
-        spoiled(&|array| array.columns[1].masked = 255),
+        spoiled(&good, |array| array.layout = 2),
+        spoiled(&good, |array| array.layout = 255),
+        spoiled(&good, |array| array.columns[0].kind = 10),
+        spoiled(&good, |array| array.columns[1].kind = 255),
+        spoiled(&good, |array| array.columns[0].masked = 2),
+        spoiled(&good, |array| array.columns[1].masked = 255),
     ];
     for array in arrays {
         array_128(&mut tally, array, &case.lent);
     }
-    for change in [|array: &mut CArray| array.columns[2].kind = 10, |array: &mut CArray| array.columns[127].masked = 2]
-    {
-        let mut array = good;
-        change(&mut array);
-        tally.port("numbers past the columns in use", call!(union_array_try_new(array; &case.lent)), 0);
+    let past =
+        [spoiled(&good, |array| array.columns[2].kind = 10), spoiled(&good, |array| array.columns[127].masked = 2)];
+    for array in past {
+        tally.port("numbers past the columns in use", ffi::array_try_new(&array, &case.lent), 0);
     }
     for strategy in [0, 1, 2, 7, 255] {
         let mut out = [9; 2];
-        let answer = call!(union_strategy(good, strategy; &case.lent; out));
-        let refused = CNulls { nulls: 0, refusal: 128, route: 0, present: 0 };
+        let answer = ffi::strategy(&good, strategy, &case.lent, &mut out);
+        let refused = ffi::Nulls { nulls: 0, refusal: 128, route: 0, present: 0 };
         tally.port("a strategy's number", (answer, out), (refused, [9; 2]));
     }
     builder_128(&mut tally);
@@ -48,28 +49,28 @@ pub fn boundary() -> Totals {
     tally.totals()
 }
 
-fn array_128(tally: &mut Tally, array: CArray, lent: &Lent) {
+fn array_128(tally: &mut Tally, array: ffi::Array, lent: &Lent) {
     let mut out = [9; 2];
     let empty = array_to(&Batch::empty());
-    let flag = CFlag { refusal: 128, holds: 0 };
-    let nulls = CNulls { nulls: 0, refusal: 128, route: 0, present: 0 };
-    let value = CValue { bits: 0, name: [0; 32], size: 0, refusal: 128, id: 0, kind: 0, missing: 0 };
-    let names = CTypeNames { names: [CNamePlace::default(); 128], count: 0, refusal: 128 };
-    tally.port("128: try_new", call!(union_array_try_new(array; lent)), 128);
-    tally.port("128: value", call!(union_array_value(array, 0; lent)), value);
-    tally.port("128: type_id", call!(union_array_type_id(array, 0; lent)), CTypeId { refusal: 128, id: 0 });
-    let offset = CValueOffset { offset: 0, refusal: 128 };
-    tally.port("128: value_offset", call!(union_array_value_offset(array, 0; lent)), offset);
-    let child = CChild { column: CColumn::default(), refusal: 128 };
-    tally.port("128: child", call!(union_array_child(array, 0; lent)), child);
-    tally.port("128: type_names", call!(union_array_type_names(array; lent)), names);
-    tally.port("128: is_dense", call!(union_array_is_dense(array; lent)), flag);
-    tally.port("128: is_nullable", call!(union_array_is_nullable(array; lent)), flag);
-    tally.port("128: type_ids", call!(union_array_type_ids(array; lent)), CPart { start: 0, count: 0, refusal: 128 });
-    let slice = call!(union_array_slice(array, 0, 1; lent));
-    tally.port("128: slice", slice, CSlice { array: empty, refusal: 128 });
-    tally.port("128: null mask", call!(union_logical_nulls(array, 10; lent; out)), nulls);
-    tally.port("128: strategy", call!(union_strategy(array, 3; lent; out)), nulls);
+    let flag = ffi::Flag { refusal: 128, holds: 0 };
+    let nulls = ffi::Nulls { nulls: 0, refusal: 128, route: 0, present: 0 };
+    let value = ffi::Value { bits: 0, name: [0; ffi::NAME_BYTES], size: 0, refusal: 128, id: 0, kind: 0, missing: 0 };
+    let names = ffi::TypeNames { names: [ffi::NamePlace::default(); ffi::MAX_COLUMNS], count: 0, refusal: 128 };
+    tally.port("128: try_new", ffi::array_try_new(&array, lent), 128);
+    tally.port("128: value", ffi::array_value(&array, 0, lent), value);
+    tally.port("128: type_id", ffi::array_type_id(&array, 0, lent), ffi::TypeId { refusal: 128, id: 0 });
+    let offset = ffi::ValueOffset { offset: 0, refusal: 128 };
+    tally.port("128: value_offset", ffi::array_value_offset(&array, 0, lent), offset);
+    let child = ffi::Child { column: ffi::Column::default(), refusal: 128 };
+    tally.port("128: child", ffi::array_child(&array, 0, lent), child);
+    tally.port("128: type_names", ffi::array_type_names(&array, lent), names);
+    tally.port("128: is_dense", ffi::array_is_dense(&array, lent), flag);
+    tally.port("128: is_nullable", ffi::array_is_nullable(&array, lent), flag);
+    tally.port("128: type_ids", ffi::array_type_ids(&array, lent), ffi::Part { start: 0, count: 0, refusal: 128 });
+    let slice = ffi::array_slice(&array, 0, 1, lent);
+    tally.port("128: slice", slice, ffi::Slice { array: empty, refusal: 128 });
+    tally.port("128: null mask", ffi::logical_nulls(&array, 10, lent, &mut out), nulls);
+    tally.port("128: strategy", ffi::strategy(&array, 3, lent, &mut out), nulls);
     tally.port("128: words kept", out, [9; 2]);
 }
 
@@ -79,35 +80,28 @@ fn builder_128(tally: &mut Tally) {
     let before = lent.clone();
     let column = Growing { kind: Kind::Int8, size: 1, slots: 3, masked: false };
     let good = builder_to(&State { dense: true, capacity: 4, limit: 2, len: 3, columns: vec![column] });
-    let spoiled = |change: &dyn Fn(&mut CBuilder)| {
-        let mut builder = good;
-        change(&mut builder);
-        builder
-    };
     let builders = [
-        spoiled(&|builder| builder.layout = 2),
-        spoiled(&|builder| builder.columns[0].kind = 10),
-        spoiled(&|builder| builder.columns[0].masked = 2),
+        spoiled(&good, |builder| builder.layout = 2),
+        spoiled(&good, |builder| builder.columns[0].kind = 10),
+        spoiled(&good, |builder| builder.columns[0].masked = 2),
     ];
     let empty = array_to(&Batch::empty());
     for builder in builders {
-        let built = CBuilt { builder, refusal: 128 };
-        let finished = CFinished { builder, array: empty, refusal: 128 };
-        let append = call_writing!(union_builder_append(builder, b"a".as_ptr(), 1, 0, 1; &mut lent));
+        let built = ffi::Built { builder, refusal: 128 };
+        let finished = ffi::Finished { builder, array: empty, refusal: 128 };
+        let append = ffi::builder_append(&builder, b"a", 0, 1, &mut lent);
         tally.port("128: append", append, built);
-        let append = call_writing!(union_builder_append_null(builder, b"a".as_ptr(), 1, 0; &mut lent));
+        let append = ffi::builder_append_null(&builder, b"a", 0, &mut lent);
         tally.port("128: append_null", append, built);
-        tally.port("128: finish_cloned", call!(union_builder_finish_cloned(builder; &lent)), finished);
-        tally.port("128: finish", call!(union_builder_finish(builder; &lent)), finished);
-        // SAFETY: no memory is lent.
-        let length = unsafe { union_builder_len(builder) };
-        tally.port("len asks none", length, CLength { builder, len: builder.len });
+        tally.port("128: finish_cloned", ffi::builder_finish_cloned(&builder, &lent), finished);
+        tally.port("128: finish", ffi::builder_finish(&builder, &lent), finished);
+        tally.port("len asks none", ffi::builder_len(&builder), ffi::Length { builder, len: builder.len });
     }
     for kind in [10, 255] {
-        let append = call_writing!(union_builder_append(good, b"a".as_ptr(), 1, kind, 1; &mut lent));
-        tally.port("128: append of no kind", append, CBuilt { builder: good, refusal: 128 });
-        let append = call_writing!(union_builder_append_null(good, b"a".as_ptr(), 1, kind; &mut lent));
-        tally.port("128: append_null of no kind", append, CBuilt { builder: good, refusal: 128 });
+        let append = ffi::builder_append(&good, b"a", kind, 1, &mut lent);
+        tally.port("128: append of no kind", append, ffi::Built { builder: good, refusal: 128 });
+        let append = ffi::builder_append_null(&good, b"a", kind, &mut lent);
+        tally.port("128: append_null of no kind", append, ffi::Built { builder: good, refusal: 128 });
     }
     tally.port("128: lent memory kept", lent, before);
 }

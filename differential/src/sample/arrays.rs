@@ -1,11 +1,12 @@
 //! Calls on arrays: random ones, and the calls that all arrays of the sample get.
 
 use super::{Sample, name_numbers};
-use crate::cases::{self, Random};
+use crate::cases;
 use crate::compare::{GATHER_COSTS, Port, STRATEGIES, number};
 use crate::model::{self, Model};
 use crate::oracle::{Nulls, Outcome, Strategy, Union};
 use crate::plain::Case;
+use crate::random::Random;
 
 /// An array that is asked: its description, and the original's array if there is one.
 pub struct Asked {

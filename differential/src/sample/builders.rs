@@ -3,12 +3,13 @@
 
 use super::arrays::{Asked, calls_on, read_whole};
 use super::questions::wide_word;
-use super::{By, Reading, Sample, name_numbers};
-use crate::cases::{self, Call, Random};
-use crate::compare::{Port, original_append};
+use super::{By, Named, Sample, name_numbers};
+use crate::cases;
+use crate::compare::{Port, number as number_of};
 use crate::model::{Book, Model};
 use crate::oracle::Builder;
-use crate::plain::{Batch, Case, Kind, Lent};
+use crate::plain::{Batch, Case, Kind, Lent, Reading, memory};
+use crate::random::Random;
 
 pub fn all(random: &mut Random, sample: &mut Sample) {
     makings(sample);
@@ -19,23 +20,12 @@ pub fn all(random: &mut Random, sample: &mut Sample) {
     }
 }
 
-/// Memory as question 16 asks of a builder, all ones.
-fn memory(capacity: usize, limit: usize) -> Lent {
-    Lent {
-        type_ids: vec![-1; capacity],
-        offsets: vec![-1; capacity],
-        values: vec![u64::MAX; limit * capacity],
-        masks: vec![u64::MAX; limit * capacity.div_ceil(64)],
-        names: vec![255; 32 * limit],
-    }
-}
-
 /// A builder of the original and the book of the same calls.
 struct Building {
     book: Book,
     original: Builder,
-    readings: Vec<Reading>,
-    accepted: Vec<Call>,
+    readings: Vec<Named>,
+    accepted: Vec<Reading>,
     /// Lent memory before the calls, and as document 01 says that they leave it.
     lent: Lent,
     left: Lent,
@@ -44,7 +34,7 @@ struct Building {
 }
 
 impl Building {
-    fn new(readings: Vec<Reading>, lent: Lent) -> Self {
+    fn new(readings: Vec<Named>, lent: Lent) -> Self {
         let (book, original, left) = (Book::default(), Builder::new_sparse(), lent.clone());
         Building { book, original, readings, accepted: vec![], lent, left, snapshot: None }
     }
@@ -79,28 +69,25 @@ impl Building {
 
     /// Appends a word, or a null.
     fn append(&mut self, sample: &mut Sample, place: usize, word: Option<u64>) {
-        let (name, kind) = self.readings[place].clone();
+        let (name, kind) = &self.readings[place];
+        let reading = Reading::new(name, *kind, word);
         let number = match self.book.state().refusal(&self.lent_to(sample.short)) {
-            0 => self.book.append(true, &name, kind, word),
+            0 => self.book.append(true, &reading),
             number => number,
         };
-        let not_utf8 = std::str::from_utf8(&name).is_err();
-        let call = match word {
-            Some(word) => Call::Append { name, kind, word },
-            None => Call::AppendNull { name, kind },
-        };
+        let not_utf8 = std::str::from_utf8(name).is_err();
         let by = match number {
             0 => {
-                assert_eq!(original_append(&mut self.original, &call), 0, "accepted by the original");
-                self.accepted.push(call);
+                assert_eq!(number_of(&self.original.append_reading(&reading)), 0, "accepted by the original");
+                self.accepted.push(reading);
                 self.book.write_last(&mut self.left);
                 By::Original
             }
             17 if not_utf8 => By::Utf8,
             18 => {
                 let mut other = Builder::with_capacity(self.book.dense, self.book.capacity);
-                self.accepted.iter().for_each(|call| assert_eq!(original_append(&mut other, call), 0));
-                assert_eq!(original_append(&mut other, &call), 18, "refused by the original");
+                self.accepted.iter().for_each(|accepted| assert_eq!(number_of(&other.append_reading(accepted)), 0));
+                assert_eq!(number_of(&other.append_reading(&reading)), 18, "refused by the original");
                 By::Original
             }
             _ => By::Document,
@@ -155,14 +142,14 @@ impl Building {
     }
 }
 
-fn reading(name: &str, kind: Kind) -> Reading {
+fn reading(name: &str, kind: Kind) -> Named {
     (name.as_bytes().to_vec(), kind)
 }
 
 /// Makings on either side of 15 and 16. A builder whose making was refused has no slots and no columns.
 fn makings(sample: &mut Sample) {
     for (capacity, limit) in [(65_536, 1), (1, 128), (1024, 3), (100, 2)] {
-        let mut all = Building::new(vec![reading("a", Kind::Int8)], memory(capacity, limit));
+        let mut all = Building::new(vec![reading("a", Kind::Int8)], memory(capacity, limit, -1));
         for dense in [true, false] {
             for short in 1..=5 {
                 sample.short = short;
@@ -194,7 +181,7 @@ fn limits(sample: &mut Sample) {
     // Of each row the first is accepted; of the others come 18 and 17, then 20, 18 and 17, then 19, 19, 19, 18 and 17.
     let rows: [&[usize]; 3] = [&[0, 2, 4], &[1, 3, 2, 4], &[0, 0, 1, 3, 2, 4]];
     for dense in [true, false] {
-        let mut all = Building::new(readings.clone(), memory(3, 2));
+        let mut all = Building::new(readings.clone(), memory(3, 2, -1));
         all.make(sample, dense, 3, 2);
         for row in rows {
             for short in 1..=5 {
@@ -280,10 +267,10 @@ const NAMES: [&[u8]; 52] = [
 ];
 
 fn names(sample: &mut Sample) {
-    let readings: Vec<Reading> = NAMES.iter().map(|name| (name.to_vec(), Kind::UInt8)).collect();
+    let readings: Vec<Named> = NAMES.iter().map(|name| (name.to_vec(), Kind::UInt8)).collect();
     let fit = |name: &&&[u8]| name.len() <= 32 && std::str::from_utf8(name).is_ok();
     let limit = NAMES.iter().filter(fit).count();
-    let mut all = Building::new(readings, memory(50, limit));
+    let mut all = Building::new(readings, memory(50, limit, -1));
     all.make(sample, true, 50, limit);
     for place in 0..NAMES.len() {
         all.append(sample, place, Some(place as u64));
@@ -300,7 +287,7 @@ fn names(sample: &mut Sample) {
 fn kinds(random: &mut Random, sample: &mut Sample, dense: bool) {
     let pairs = |k: usize| Kind::ALL.map(|kind| reading(&format!("{:?}", Kind::ALL[k]), kind));
     let readings = (0..10).flat_map(pairs).collect();
-    let mut all = Building::new(readings, memory(50, 10));
+    let mut all = Building::new(readings, memory(50, 10, -1));
     all.make(sample, dense, 50, 10);
     for turn in 0..4 {
         for k in 0..10 {
@@ -321,9 +308,9 @@ fn kinds(random: &mut Random, sample: &mut Sample, dense: bool) {
 }
 
 /// Names with their kinds, at most one more than the limit; perhaps one of them with another kind too, and an odd name.
-fn random_readings(random: &mut Random, limit: usize) -> Vec<Reading> {
+fn random_readings(random: &mut Random, limit: usize) -> Vec<Named> {
     let names = cases::script_names(random, limit);
-    let mut readings: Vec<Reading> = names.into_iter().map(|name| (name, random.pick(&Kind::ALL))).collect();
+    let mut readings: Vec<Named> = names.into_iter().map(|name| (name, random.pick(&Kind::ALL))).collect();
     if random.one_in(2) {
         let (name, _) = random.pick(&readings);
         readings.push((name, random.pick(&Kind::ALL)));
@@ -359,7 +346,7 @@ pub fn random_case(random: &mut Random, sample: &mut Sample) {
     let dense = random.one_in(2);
     let capacity = random.pick(&[1, 3, 20, 31, 63, 64, 65, 100, 130, 1024]);
     let limit = 1 + random.below(4);
-    let mut all = Building::new(random_readings(random, limit), memory(capacity, limit));
+    let mut all = Building::new(random_readings(random, limit), memory(capacity, limit, -1));
     all.make(sample, dense, capacity, limit);
     for _ in 0..4 + random.below(capacity.min(130) + 20) {
         match random.below(120) {

@@ -2,9 +2,9 @@
 
 use super::Sample;
 use super::arrays::{Asked, asked_of, read_whole};
-use crate::cases::Random;
 use crate::compare::STRATEGIES;
 use crate::plain::{Case, Kind, add_column, int8_columns, without_columns};
+use crate::random::Random;
 
 pub fn all(random: &mut Random, sample: &mut Sample) {
     for (number, case) in [one_and_two(), three(), five_to_eight()].concat() {

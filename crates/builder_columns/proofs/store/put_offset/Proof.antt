@@ -6,7 +6,7 @@ use lib.IntN.{ℤ}
 use lib.ListN.{set}
 use mir.Syntax.{w32}
 use mir.ValLaws.{toZ-pos}
-use Rattle.union_array.specs.declared.Layout.{Layout}
+use Rattle.array_columns.specs.declared.Layout.{Layout}
 use Rattle.union_array.specs.Types.{byLayout}
 use lib.IntN.{pos}
 use Rattle.builder_columns.proofs.store.put_offset.Statement.{statement}

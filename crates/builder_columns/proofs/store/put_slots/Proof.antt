@@ -4,7 +4,7 @@ use Prim.Native.Nat.{_*_}
 use native.Mathlib.Omega.{arith}
 use borrow.Author.Needs.{needs}
 use Rattle.bitmap.specs.Bits.{wordsFor}
-use Rattle.union_array.specs.declared.Layout.{Layout}
+use Rattle.array_columns.specs.declared.Layout.{Layout}
 use Rattle.builder_columns.specs.Columns.{someIf}
 use Rattle.builder_columns.specs.Puts.{puts, putValue, putBit}
 use Rattle.builder_columns.specs.Writing.{putsFor}

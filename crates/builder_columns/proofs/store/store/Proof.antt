@@ -1,6 +1,6 @@
 -- Each slice by its own call. Assumes nothing.
 use borrow.Author.Needs.{needs}
-use Rattle.union_array.specs.Buffers.{buffersOf}
+use Rattle.array_columns.specs.Buffers.{buffersOf}
 use Rattle.builder_columns.specs.Columns.{someIf}
 use Rattle.builder_columns.proofs.Stored.{all-stored}
 use Rattle.builder_columns.proofs.store.store.Statement.{statement}

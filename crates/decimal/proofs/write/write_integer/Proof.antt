@@ -18,17 +18,17 @@ returns c = integer-plain-out (c .before .before .before .before .before .before
 slice-write-out : tie.Need-slice-write-out
 slice-write-out c = search needs
 
-mul-write-from : tie.Need-mul-write-from
-mul-write-from c = search needs
-
-add-write-from : tie.Need-add-write-from
-add-write-from c = search needs
-
 sub-write-from : tie.Need-sub-write-from
 sub-write-from c = search needs
 
-add-write-from-2 : tie.Need-add-write-from-2
-add-write-from-2 c = search needs
+sub-write-from-2 : tie.Need-sub-write-from-2
+sub-write-from-2 c = search needs
+
+sub-write-from-3 : tie.Need-sub-write-from-3
+sub-write-from-3 c = search needs
+
+add-write-from : tie.Need-add-write-from
+add-write-from c = search needs
 
 write-from-requires-2 : tie.Need-write-from-requires-2
 write-from-requires-2 c κs = simp length-set (omega (arith, c .before .before .before .pre))
@@ -47,10 +47,10 @@ write-integer-spec =
     same-length
     returns
     slice-write-out
-    mul-write-from
-    add-write-from
     sub-write-from
-    add-write-from-2
+    sub-write-from-2
+    sub-write-from-3
+    add-write-from
     write-from-requires-2
     same-length-2
     returns-2)

@@ -45,13 +45,13 @@ use denote.Triple.Walked.{Stays, gave-slice, stay-dropped, walkOf, goes-gave-sli
 use denote.Exit.{yes}
 use denote.Signature.{plain, shrSliceOf}
 use Rattle.union_builder.specs.declared.UnionBuilder.{UnionBuilder}
-use Rattle.union_array.specs.declared.Kind.{Kind}
+use Rattle.array_columns.specs.declared.Kind.{Kind}
 use Rattle.union_builder.proofs.UnionBuilder as T
 use Rattle.union_builder.proofs.UnionBuilder.Laws as T′
 use Rattle.union_builder.proofs.Appended as D
 use Rattle.union_builder.proofs.Appended.Laws as D′
-use Rattle.union_array.proofs.Kind as KindT
-use Rattle.union_array.proofs.Kind.Laws as KindL
+use Rattle.array_columns.proofs.Kind as KindT
+use Rattle.array_columns.proofs.Kind.Laws as KindL
 use Rattle.union_builder.proofs.UnionBuilder.append_mut as append-mut
 use Rattle.union_builder.proofs.UnionBuilder.append_mut.Symbol as callee-def
 use Rattle.union_builder.proofs.UnionBuilder.append_mut.Symbol.{name as #callee}

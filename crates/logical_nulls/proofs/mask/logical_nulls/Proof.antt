@@ -1,13 +1,14 @@
-use mathlib.Core.Path.{_≡_, refl, sym, ap, _∙_}
-use Prim.Native.Nat.{ℕ}
+use mathlib.Core.Path.{_≡_, sym, ap, _∙_}
 use native.Mathlib.Omega.{arith}
-use Rattle.union_array.specs.Buffers.{Buffers, buffersOf, onlyMasks}
+use Rattle.array_columns.specs.Buffers.{Buffers, buffersOf, onlyWords}
 use Rattle.union_array.specs.Questions.{checked}
 use Rattle.null_strategy.specs.Setting.{settingNumber, settingTold, settingOf}
+use Rattle.null_strategy.specs.declared.Route.{Route}
 use Rattle.null_strategy.specs.Route.{routeOf}
 use Rattle.null_strategy.proofs.Settings.{setting-refused, setting-taken}
-use Rattle.logical_nulls.specs.Mask.{maskedBy}
-use Rattle.logical_nulls.proofs.Calls.{too-few, enough, mask-unchecked, mask-12, mask-13, mask-taken, mask-absent, masked-same, route-same, fields-ok, counted-ok, mask-ready}
+use Rattle.null_strategy.proofs.Choosing.{route-words}
+use Rattle.logical_nulls.specs.Mask.{maskedBy, logicalNullsOf}
+use Rattle.logical_nulls.proofs.Calls.{too-few, enough, mask-unchecked, mask-12, mask-13, mask-taken, mask-absent, masked-same, fields-ok, counted-ok, mask-ready}
 use borrow.Author.Needs.{needs}
 use Rattle.logical_nulls.proofs.mask.logical_nulls.Statement.{statement}
 use Rattle.logical_nulls.proofs.mask.logical_nulls.Tie as tie
@@ -32,8 +33,8 @@ its-route : (c : tie.After-route-for) → let st = c .before .before .before .be
     c .route-for .result ≡ routeOf (st .args .array) (lent st) (st .args .cost)
 its-route c =
     let st = c .before .before .before .before .before .before .before .before .before .before .before .before .before .before .before in
-    c .route-for .ensures (st .args .array) (onlyMasks (st .args .masks .now)) refl (c .before .before .fields-of .ensures)
-    ∙ route-same (st .args .array) (lent st) (c .before .cost .result) ∙ ap (routeOf (st .args .array) (lent st)) (its-cost (c .before))
+    c .route-for .ensures (onlyWords (st .args .values .now) (st .args .masks .now)) (c .before .before .fields-of .ensures)
+    ∙ route-words (st .args .array) (lent st) (c .before .cost .result) ∙ ap (routeOf (st .args .array) (lent st)) (its-cost (c .before))
 
 check-requires : tie.Need-check-requires
 check-requires c κs = search needs
@@ -44,7 +45,7 @@ refused-requires c κs = search needs
 returns : tie.Need-returns
 returns c =
     let st = c .before .before .before .before .before .before .before in
-    mask-unchecked (st .args .array) (lent st) (st .args .out .now) (st .args .cost) (c .before .before .check .result) _ (c .before .before .check .ensures) (c .before .if1 .taken) (c .refused .ensures)
+    mask-unchecked (st .args .array) (lent st) (st .args .out .now) (st .args .cost) (c .before .before .check .result) (c .refused .result) (c .before .before .check .ensures) (c .before .if1 .taken) (c .refused .ensures)
 
 new-requires : tie.Need-new-requires
 new-requires c κs = search needs
@@ -61,7 +62,7 @@ refused-requires-2 c κs = search needs
 returns-2 : tie.Need-returns-2
 returns-2 c =
     let st = c .before .before .before .before .before .before .before .before .before .before in
-    mask-12 (st .args .array) (lent st) (st .args .out .now) (st .args .cost) (accepted (c .before .before .before .before)) _
+    mask-12 (st .args .array) (lent st) (st .args .out .now) (st .args .cost) (accepted (c .before .before .before .before)) (c .refused2 .result)
     (setting-refused (st .args .cost) (ap settingTold (sym (c .before .enum-told .given .1)) ∙ c .before .before .before .new .ensures)) (c .refused2 .ensures)
 
 words-for-requires : tie.Need-words-for-requires
@@ -76,7 +77,7 @@ returns-3 : tie.Need-returns-3
 returns-3 c =
     let st = c .before .before .before .before .before .before .before .before .before .before .before .before .before in
     let w = c .before .before .words-for in
-    mask-13 (st .args .array) (lent st) (st .args .out .now) (st .args .cost) (accepted (c .before .before .before .before .before .before .before)) _ (is-setting (c .before .before .before .before))
+    mask-13 (st .args .array) (lent st) (st .args .out .now) (st .args .cost) (accepted (c .before .before .before .before .before .before .before)) (c .refused3 .result) (is-setting (c .before .before .before .before))
     (too-few (st .args .array) (lent st) (st .args .out .now) (w .result) (w .ensures) (c .before .if2 .taken)) (c .refused3 .ensures)
 
 fields-of-requires : tie.Need-fields-of-requires
@@ -88,41 +89,60 @@ cost-requires : tie.Need-cost-requires
 cost-requires c κs = search needs
 
 route-for-requires : tie.Need-route-for-requires
-route-for-requires c κs = search needs
+route-for-requires c κs =
+    let a = c .before .before .before .before .before .before .before .before .before .before .before .before .before .before .args in
+    record { buffers = onlyWords (a .values .now) (a .masks .now); fields = c .before .fields-of .ensures }
 
-absent-requires : tie.Need-absent-requires
-absent-requires c κs = search needs
+is-absent-requires : tie.Need-is-absent-requires
+is-absent-requires c κs = search needs
+
+answer-on-requires : tie.Need-answer-on-requires
+answer-on-requires c κs = search needs
+
+-- what is written on the route is the answer
+its-mask : (c : tie.After-route-for) → let st = c .before .before .before .before .before .before .before .before .before .before .before .before .before .before .before in
+    maskedBy (st .args .array) (lent st) (c .route-for .result) (st .args .out .now) ≡ logicalNullsOf (st .args .array) (lent st) (st .args .cost) (st .args .out .now)
+its-mask c =
+    let roomy = c .before .before .before in
+    let w = roomy .before .words-for in
+    let made = roomy .before .before .before in
+    let passed = made .before .before .before in
+    let st = passed .before .before .before .before .before .before in
+    ap (λ (r : Route). maskedBy (st .args .array) (lent st) r (st .args .out .now)) (its-route c)
+    ∙ mask-taken (st .args .array) (lent st) (st .args .out .now) (st .args .cost) (accepted passed) (is-setting made)
+    (enough (st .args .array) (lent st) (st .args .out .now) (w .result) (w .ensures) (roomy .if2 .left))
 
 returns-4 : tie.Need-returns-4
 returns-4 c =
-    let st = c .before .before .before .before .before .before .before .before .before .before .before .before .before .before .before .before .before in
-    let w = c .before .before .before .before .before .before .words-for in
-    mask-absent (st .args .array) (lent st) (st .args .out .now) (st .args .cost) _ (sym (its-route (c .before .before)) ∙ c .before .if3 .taken) (c .absent .ensures)
-    ∙ mask-taken (st .args .array) (lent st) (st .args .out .now) (st .args .cost) (accepted (c .before .before .before .before .before .before .before .before .before .before .before))
-    (is-setting (c .before .before .before .before .before .before .before .before)) (enough (st .args .array) (lent st) (st .args .out .now) (w .result) (w .ensures) (c .before .before .before .before .before .if2 .left))
+    let chosen = c .before .before .before in
+    let st = chosen .before .before .before .before .before .before .before .before .before .before .before .before .before .before .before in
+    mask-absent (st .args .array) (lent st) (st .args .out .now) (chosen .route-for .result) (c .answer-on .result)
+    (sym (c .before .before .is-absent .ensures) ∙ c .before .if3 .taken) (c .answer-on .ensures)
+    ∙ its-mask chosen
 
 run-route-requires : tie.Need-run-route-requires
 run-route-requires c κs =
-    let st = c .before .before .before .before .before .before .before .before .before .before .before .before .before .before .before .before .before in
+    let chosen = c .before .before .before in
+    let stated = chosen .before .before in
+    let roomy = stated .before in
+    let w = roomy .before .words-for in
+    let st = chosen .before .before .before .before .before .before .before .before .before .before .before .before .before .before .before in
     let a = st .args in
-    let w = c .before .before .before .before .before .before .words-for in
-    mask-ready (a .array) (c .before .before .before .before .fields-of .result) (a .type-ids .now) (a .offsets .now) (a .values .now) (a .masks .now) (a .names .now) (a .out .now) (a .cost)
-    (c .before .before .route-for .result) (w .result) (accepted (c .before .before .before .before .before .before .before .before .before .before .before)) (c .before .before .before .before .fields-of .ensures)
-    (w .ensures) (c .before .before .before .before .before .if2 .left) (its-route (c .before .before)) (c .before .if3 .left)
+    mask-ready (a .array) (stated .fields-of .result) (a .type-ids .now) (a .offsets .now) (a .values .now) (a .masks .now) (a .names .now) (a .out .now) (a .cost)
+    (w .result) (chosen .route-for .result) (accepted (roomy .before .before .before .before .before .before)) (stated .fields-of .ensures) (w .ensures) (roomy .if2 .left) (its-route chosen)
+    (sym (c .before .before .is-absent .ensures) ∙ c .before .if3 .left)
 
 same-length : tie.Need-same-length
 same-length c = search needs
 
 returns-5 : tie.Need-returns-5
 returns-5 c =
-    let st = c .before .before .before .before .before .before .before .before .before .before .before .before .before .before .before .before .before .before .before .before in
+    let chosen = c .before .before .before .before .before .before in
+    let st = chosen .before .before .before .before .before .before .before .before .before .before .before .before .before .before .before in
     let a = st .args in
-    let w = c .before .before .before .before .before .before .before .before .before .words-for in
     c .before .before .run-route .ensures
-    ∙ masked-same (a .array) (a .type-ids .now) (a .offsets .now) (a .values .now) (a .names .now) (a .masks .now) (c .before .before .before .before .before .route-for .result) (a .out .now)
-    ∙ ap (λ (n : ℕ). maskedBy (a .array) (lent st) n (a .out .now)) (its-route (c .before .before .before .before .before))
-    ∙ mask-taken (a .array) (lent st) (a .out .now) (a .cost) (accepted (c .before .before .before .before .before .before .before .before .before .before .before .before .before .before))
-    (is-setting (c .before .before .before .before .before .before .before .before .before .before .before)) (enough (a .array) (lent st) (a .out .now) (w .result) (w .ensures) (c .before .before .before .before .before .before .before .before .if2 .left))
+    ∙ masked-same (a .array) (a .type-ids .now) (a .offsets .now) (a .values .now) (a .names .now) (a .masks .now) (chosen .route-for .result) (a .out .now)
+    ∙ its-mask chosen
 
 pub logical-nulls-spec : {M : Type 1} → statement M
 logical-nulls-spec =
@@ -142,7 +162,8 @@ logical-nulls-spec =
     fields-of-requires
     cost-requires
     route-for-requires
-    absent-requires
+    is-absent-requires
+    answer-on-requires
     returns-4
     run-route-requires
     same-length

@@ -1,9 +1,9 @@
 use mathlib.Core.Path.{_≡_, sym, ap, _∙_}
 use mathlib.Core.Bool.{true}
-use Prim.Native.Nat.{ℕ}
+use Rattle.null_strategy.specs.declared.Route.{Route}
 use native.Mathlib.Omega.{arith}
 use borrow.Author.Tests.{not-true, not-false}
-use Rattle.union_array.specs.Buffers.{Buffers, buffersOf}
+use Rattle.array_columns.specs.Buffers.{Buffers, buffersOf}
 use Rattle.union_array.specs.Questions.{checked}
 use Rattle.logical_nulls.specs.Mask.{maskedBy, question14}
 use Rattle.logical_nulls.proofs.Calls.{too-few, enough, strategy-unchecked, strategy-14, strategy-13, strategy-taken, masked-same, fields-ok, counted-ok, may-run, strategy-ready}
@@ -38,7 +38,7 @@ refused-requires c κs = search needs
 returns : tie.Need-returns
 returns c =
     let st = c .before .before .before .before .before .before .before in
-    strategy-unchecked (st .args .array) (lent st) (st .args .out .now) (st .args .strategy) (c .before .before .check .result) _ (c .before .before .check .ensures) (c .before .if1 .taken) (c .refused .ensures)
+    strategy-unchecked (st .args .array) (lent st) (st .args .out .now) (st .args .strategy) (c .before .before .check .result) (c .refused .result) (c .before .before .check .ensures) (c .before .if1 .taken) (c .refused .ensures)
 
 fields-of-requires : tie.Need-fields-of-requires
 fields-of-requires c κs =
@@ -54,7 +54,7 @@ refused-requires-2 c κs = search needs
 returns-2 : tie.Need-returns-2
 returns-2 c =
     let st = c .before .before .before .before .before .before .before .before .before .before in
-    strategy-14 (st .args .array) (lent st) (st .args .out .now) (st .args .strategy) (accepted (c .before .before .before .before)) _ (asked (c .before .before) ∙ not-true _ (c .before .if2 .taken)) (c .refused2 .ensures)
+    strategy-14 (st .args .array) (lent st) (st .args .out .now) (st .args .strategy) (accepted (c .before .before .before .before)) (c .refused2 .result) (asked (c .before .before) ∙ not-true _ (c .before .if2 .taken)) (c .refused2 .ensures)
 
 words-for-requires : tie.Need-words-for-requires
 words-for-requires c κs =
@@ -68,7 +68,7 @@ returns-3 : tie.Need-returns-3
 returns-3 c =
     let st = c .before .before .before .before .before .before .before .before .before .before .before .before in
     let w = c .before .before .words-for in
-    strategy-13 (st .args .array) (lent st) (st .args .out .now) (st .args .strategy) (accepted (c .before .before .before .before .before .before)) _ (may (c .before .before .before))
+    strategy-13 (st .args .array) (lent st) (st .args .out .now) (st .args .strategy) (accepted (c .before .before .before .before .before .before)) (c .refused3 .result) (may (c .before .before .before))
     (too-few (st .args .array) (lent st) (st .args .out .now) (w .result) (w .ensures) (c .before .if3 .taken)) (c .refused3 .ensures)
 
 route-of-requires : tie.Need-route-of-requires
@@ -91,7 +91,7 @@ returns-4 c =
     let w = c .before .before .before .before .before .before .words-for in
     c .before .before .run-route .ensures
     ∙ masked-same (a .array) (a .type-ids .now) (a .offsets .now) (a .values .now) (a .names .now) (a .masks .now) (c .before .before .before .before .route-of .result) (a .out .now)
-    ∙ ap (λ (n : ℕ). maskedBy (a .array) (lent st) n (a .out .now)) (c .before .before .before .before .route-of .ensures)
+    ∙ ap (λ (r : Route). maskedBy (a .array) (lent st) r (a .out .now)) (c .before .before .before .before .route-of .ensures)
     ∙ strategy-taken (a .array) (lent st) (a .out .now) (a .strategy) (accepted (c .before .before .before .before .before .before .before .before .before .before)) (may (c .before .before .before .before .before .before .before)) (enough (a .array) (lent st) (a .out .now) (w .result) (w .ensures) (c .before .before .before .before .before .if3 .left))
 
 pub run-strategy-spec : {M : Type 1} → statement M

@@ -1,74 +1,93 @@
--- The loop has stored the fields before q. Assumes nothing.
-use borrow.Author.Needs.{needs}
+-- The loop has stored the columns before q of those taken up. Assumes nothing.
 use mathlib.Core.Path.{_≡_, sym, ap, ap₂, _∙_}
 use mathlib.Core.List.{List}
-use mathlib.Core.Logic.{⊎-elim}
 use Prim.Native.Nat.{ℕ, _-_, _≤_, _<_}
 use native.Mathlib.Omega.{arith}
-use lib.ListN.{length, getD, take, set, length-map}
-use lib.IntN.{ℤ, natAbs}
-use Rattle.null_strategy.specs.declared.Field.{Field}
-use Rattle.null_strategy.specs.Fields.{noField}
+use lib.ListN.{length, getD, take, set, length-map, length-set, replicate}
+use lib.IntN.{natAbs}
+use Rattle.array_columns.specs.declared.Column.{Column}
+use Rattle.union_array.specs.Types.{noColumn}
+use Rattle.logical_nulls.specs.Steps.{columnsAt}
 use Rattle.logical_nulls.specs.Table.{tableOf}
-use Rattle.bitmap.proofs.Ids.{id-is, id-at, id-casts}
-use Rattle.logical_nulls.proofs.Entries.{valid-plain, table-none, table-yes, table-no}
+use Rattle.logical_nulls.proofs.Entries.{table-none, table-more}
+use Rattle.logical_nulls.proofs.TakenUp.{at-place}
+use borrow.Author.Needs.{needs}
 use Rattle.logical_nulls.proofs.table.fill.Statement.{statement}
 use Rattle.logical_nulls.proofs.table.fill.Tie as tie
 
 abbrev Inv-loop : tie.InvT-loop
-Inv-loop fs table₀ used q₀ table q = (q ≤ used) × (table ≡ tableOf (take q (fs .list)))
+Inv-loop columns t table₀ used q₀ table q = (q ≤ used) × (length table ≡ 256) × (table ≡ tableOf (take q (columnsAt columns (t .places))))
 
 abbrev μ-loop : tie.MeasureT-loop
-μ-loop fs table₀ used q₀ table q = used - q
+μ-loop columns t table₀ used q₀ table q = used - q
+
+no-column-requires : tie.Need-no-column-requires Inv-loop μ-loop
+no-column-requires c κs = search needs
 
 loop-holds : tie.Need-loop-holds Inv-loop μ-loop
-loop-holds c = (omega arith, table-none (c .args .t1 .list))
+loop-holds c =
+    let a = c .before .args in (
+      omega arith,
+      omega arith,
+      ap (λ (x : Column). replicate 256 (record { values = x .values; mask = x .mask; name = x .name; slots = 4294967295; bit = x .bit; size = x .size; id = x .id; kind = x .kind; masked = x .masked })) (c .no-column .ensures)
+          ∙ table-none (columnsAt (a .t1) (a .t2 .places)),
+    )
 
-mul-f : tie.Need-mul-f Inv-loop μ-loop
-mul-f c = omega arith
+element-copy-out-place : tie.Need-element-copy-out-place Inv-loop μ-loop
+element-copy-out-place c = omega (arith, c .before .before .before .pre .few)
 
-element-copy-out-f : tie.Need-element-copy-out-f Inv-loop μ-loop
-element-copy-out-f c = omega arith
+cast-place : tie.Need-cast-place Inv-loop μ-loop
+cast-place c = search needs
+
+element-copy-out-at : tie.Need-element-copy-out-at Inv-loop μ-loop
+element-copy-out-at c = omega (arith, c .before .before .before .before .pre .few)
 
 cast-at : tie.Need-cast-at Inv-loop μ-loop
-cast-at c =
-    let st = c .before .before .before .before .before .before .before in
-    let q = c .before .before .before .before .before .before .loop .q in
-    let z = getD (st .args .t1 .list) q noField .id in
-    id-casts z (c .struct-told .given .1 .1 .1 .0 .1) (valid-plain z (st .pre .1 q (c .before .before .before .before .before .loop-test .taken)) .0)
+cast-at c = search needs
+
+mul-c : tie.Need-mul-c Inv-loop μ-loop
+mul-c c = let l = c .before .before .before in omega (arith, l .before .before .pre .placed (l .loop .q) (c .before .before .loop-test .taken))
+
+array-copy-out-c : tie.Need-array-copy-out-c Inv-loop μ-loop
+array-copy-out-c c = let l = c .before .before .before in omega (arith, l .before .before .pre .placed (l .loop .q) (c .before .before .loop-test .taken))
 
 mul-table : tie.Need-mul-table Inv-loop μ-loop
-mul-table c = omega (arith, id-at (getD (c .before .before .before .before .before .before .before .args .t1 .list) (c .before .before .before .before .before .before .loop .q) noField .id) (c .struct-told .given .1 .1 .1 .0 .1))
+mul-table c = let l = c .before .before .before .before in omega (arith, l .before .before .pre .named (l .loop .q) (c .before .before .before .loop-test .taken) .1)
 
 array-set-from-table : tie.Need-array-set-from-table Inv-loop μ-loop
-array-set-from-table c = omega (arith, id-at (getD (c .before .before .before .before .before .before .before .args .t1 .list) (c .before .before .before .before .before .before .loop .q) noField .id) (c .struct-told .given .1 .1 .1 .0 .1))
+array-set-from-table c = let l = c .before .before .before .before in omega (arith, l .before .before .pre .named (l .loop .q) (c .before .before .before .loop-test .taken) .1)
 
 add-q : tie.Need-add-q Inv-loop μ-loop
-add-q c = omega arith
+add-q c = omega (arith, c .before .before .before .before .before .before .pre .few)
 
 loop-less : tie.Need-loop-less Inv-loop μ-loop
 loop-less c = search needs
 
 loop-again : tie.Need-loop-again Inv-loop μ-loop
 loop-again c =
-    let st = c .before .before .before .before .before in
-    let fl = st .args .t1 .list in
-    let l = c .before .before .before .before .loop in
-    let f = getD fl (l .q) noField in
-    let full : length fl ≡ 128 = sym (length-map fl _) ∙ st .good .0 .1 .1 .0 .1 .0 .1 in
-    let h : l .q < length fl = omega arith in (
+    let l = c .before .before .before .before in
+    let st = l .before .before in
+    let cs = st .args .t1 in
+    let t = st .args .t2 in
+    let all = columnsAt cs (t .places) in
+    let q = l .loop .q in
+    let in-use = c .before .before .before .loop-test .taken in
+    let long : q < length (t .places) = omega (arith, st .pre .long) in
+    let e : getD all q noColumn ≡ getD cs (getD (t .places) q 0) noColumn = at-place cs (t .places) q long in
+    let i : natAbs (getD all q noColumn .id) ≡ getD (t .ids) q 0 = ap natAbs (st .pre .named q in-use .0) in (
       omega arith,
-      ⊎-elim
-          (λ w. w .3 ∙ ap₂ (λ (t : List Field) (z : ℤ). set t (natAbs z) f) (l .inv .1) (id-is (f .id) (w .2 .given .1 .1 .1 .0 .1)) ∙ table-yes fl (l .q) h (w .0 .taken))
-          (λ w. w .1 ∙ l .inv .1 ∙ table-no fl (l .q) h (w .0 .left))
-          (c .if1 .came),
+      simp length-set (l .loop .inv .1),
+      ap (λ (o : List Column). set o (getD (t .ids) q 0) (getD cs (getD (t .places) q 0) noColumn)) (l .loop .inv .2)
+          ∙ ap₂ (λ (n : ℕ) (x : Column). set (tableOf (take q all)) n x) (sym i) (sym e)
+          ∙ table-more all q (omega (arith, length-map (t .places) (λ p. getD cs p noColumn))),
     )
 
 returns : tie.Need-returns Inv-loop μ-loop
 returns c =
-    let fs = c .before .before .args .t1 in
-    let e : c .before .loop .q ≡ fs .count = omega arith in
-    c .before .loop .inv .1 ∙ ap (λ (n : ℕ). tableOf (take n (fs .list))) e
+    let a = c .before .before .before .args in
+    let l = c .before .loop in
+    let e : l .q ≡ a .t2 .count = omega arith in
+    l .inv .2 ∙ ap (λ (n : ℕ). tableOf (take n (columnsAt (a .t1) (a .t2 .places)))) e
 
 pub fill-spec : {M : Type 1} → statement M
 fill-spec =
@@ -76,10 +95,14 @@ fill-spec =
     (tie.spec
     Inv-loop
     μ-loop
+    no-column-requires
     loop-holds
-    mul-f
-    element-copy-out-f
+    element-copy-out-place
+    cast-place
+    element-copy-out-at
     cast-at
+    mul-c
+    array-copy-out-c
     mul-table
     array-set-from-table
     add-q

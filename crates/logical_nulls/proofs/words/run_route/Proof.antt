@@ -11,11 +11,11 @@ write-mask-requires c κs = search needs
 
 null-count-requires : tie.Need-null-count-requires
 null-count-requires c κs =
-    let st = c .before .before .before .before .before .before .before in
+    let st = c .before .before .before .before .before .before .before .before in
     let a = st .args in
     let full : length (a .array .columns) ≡ 128 = sym (length-map (a .array .columns) _) ∙ st .good .0 .1 .1 .0 .1 .0 .1 in
     let w = c .before .before .before .write-mask .ensures in
-    (omega (arith, count-in (a .array) (a .fs) (a .route) (a .ids .now) (a .offsets .now) (a .masks .now) (a .out .now) full (st .pre .0) _ w), omega (arith, short (a .array) (a .fs) (a .route) (a .ids .now) (a .offsets .now) (a .masks .now) (a .out .now) full (st .pre .0)))
+    (omega (arith, count-in (a .array) (a .fs) (a .route) (a .ids .now) (a .offsets .now) (a .values .now) (a .masks .now) (a .out .now) full (st .pre .0) _ w), omega (arith, short (a .array) (a .fs) (a .route) (a .ids .now) (a .offsets .now) (a .values .now) (a .masks .now) (a .out .now) full (st .pre .0)))
 
 answer-on-requires : tie.Need-answer-on-requires
 answer-on-requires c κs = search needs
@@ -25,10 +25,10 @@ same-length c = search needs
 
 returns : tie.Need-returns
 returns c =
-    let st = c .before .before .before .before .before .before .before .before .before in
+    let st = c .before .before .before .before .before .before .before .before .before .before in
     let a = st .args in
     let full : length (a .array .columns) ≡ 128 = sym (length-map (a .array .columns) _) ∙ st .good .0 .1 .1 .0 .1 .0 .1 in
-    answered (a .array) (a .fs) (a .route) (a .ids .now) (a .offsets .now) (a .masks .now) (a .out .now) full (st .pre .0) _ _ _ (st .pre .1) (c .before .before .before .before .before .write-mask .ensures) (ap (λ r. r .nulls) (c .before .null-count .ensures)) (c .answer-on .ensures)
+    answered (a .array) (a .fs) (a .route) (a .ids .now) (a .offsets .now) (a .values .now) (a .masks .now) (a .out .now) full (st .pre .0) _ _ (c .answer-on .result) (st .pre .1) (c .before .before .before .before .before .write-mask .ensures) (ap (λ r. r .nulls) (c .before .null-count .ensures)) (c .answer-on .ensures)
 
 pub run-route-spec : {M : Type 1} → statement M
 run-route-spec =

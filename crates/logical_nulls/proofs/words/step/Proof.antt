@@ -1,39 +1,44 @@
 use borrow.Author.Needs.{needs}
-use borrow.Author.Tests.{eq-eqb, ne-eqb}
-use Rattle.logical_nulls.specs.Steps.{stepWord}
 use Rattle.logical_nulls.proofs.words.step.Statement.{statement}
 use Rattle.logical_nulls.proofs.words.step.Tie as tie
+
+enum-told : tie.Need-enum-told
+enum-told c = search needs
+
+skip-one-requires : tie.Need-skip-one-requires
+skip-one-requires c κs = let st = c .before .before in (st .pre .0, st .pre .1 (c .enum-told .given .1))
+
+enum-told-2 : tie.Need-enum-told-2
+enum-told-2 c = search needs
 
 skip-without-nulls-requires : tie.Need-skip-without-nulls-requires
 skip-without-nulls-requires c κs = search needs
 
-returns : tie.Need-returns
-unfolding stepWord
-returns c = rw (eq-eqb (c .before .before .args .route) 5 (c .before .if1 .taken)) (c .skip-without-nulls .ensures)
+enum-told-3 : tie.Need-enum-told-3
+enum-told-3 c = search needs
 
 skip-fully-null-requires : tie.Need-skip-fully-null-requires
 skip-fully-null-requires c κs = search needs
 
-returns-2 : tie.Need-returns-2
-unfolding stepWord
-returns-2 c = let r = c .before .before .before .args .route in rw (ne-eqb r 5 (c .before .before .if1 .left), eq-eqb r 6 (c .before .if2 .taken)) (c .skip-fully-null .ensures)
+returns : tie.Need-returns
+returns c = rw (c .before .enum-told .given .1) (c .skip-one .ensures)
 
-skip-one-requires : tie.Need-skip-one-requires
-skip-one-requires c κs =
-    let st = c .before .before in
-    (st .pre .0, st .pre .1 (rw (ne-eqb (st .args .route) 5 (c .before .if1 .left), ne-eqb (st .args .route) 6 (c .if2 .left))))
+returns-2 : tie.Need-returns-2
+returns-2 c = rw (c .before .enum-told2 .given .1) (c .skip-without-nulls .ensures)
 
 returns-3 : tie.Need-returns-3
-unfolding stepWord
-returns-3 c = let r = c .before .before .before .args .route in rw (ne-eqb r 5 (c .before .before .if1 .left), ne-eqb r 6 (c .before .if2 .left)) (c .skip-one .ensures)
+returns-3 c = rw (c .before .enum-told3 .given .1) (c .skip-fully-null .ensures)
 
 pub step-spec : {M : Type 1} → statement M
 step-spec =
     tie.close
     (tie.spec
-    skip-without-nulls-requires
-    returns
-    skip-fully-null-requires
-    returns-2
+    enum-told
     skip-one-requires
+    enum-told-2
+    skip-without-nulls-requires
+    enum-told-3
+    skip-fully-null-requires
+    returns
+    returns-2
     returns-3)

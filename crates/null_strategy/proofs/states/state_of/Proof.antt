@@ -1,7 +1,7 @@
 use Prim.Native.Nat.{ℕ}
 use Rattle.bitmap.specs.Bits.{isFullyNull}
 use mathlib.Core.Path.{sym, ap, _∙_}
-use Rattle.union_array.specs.Buffers.{onlyMasks}
+use Rattle.array_columns.specs.Buffers.{onlyWords}
 use Rattle.null_strategy.proofs.FieldStates.{state-none, state-full, state-some}
 use borrow.Author.Needs.{needs}
 use Rattle.null_strategy.proofs.states.state_of.Statement.{statement}
@@ -12,8 +12,8 @@ null-count-requires c κs = search needs
 
 returns : tie.Need-returns
 returns c =
-    let a = c .before .before .before .args in
-    state-none (onlyMasks (a .masks .now)) (a .c) (sym (ap (λ r. r .nulls) (c .before .null-count .ensures)) ∙ c .if1 .taken)
+    let a = c .before .before .before .before .args in
+    state-none (onlyWords (a .values .now) (a .masks .now)) (a .c) (sym (ap (λ r. r .nulls) (c .before .null-count .ensures)) ∙ c .if1 .taken)
 
 cast-is-fully-null : tie.Need-cast-is-fully-null
 cast-is-fully-null c = search needs
@@ -23,16 +23,16 @@ is-fully-null-requires c κs = search needs
 
 returns-2 : tie.Need-returns-2
 returns-2 c =
-    let a = c .before .before .before .before .before .before .args in
+    let a = c .before .before .before .before .before .before .before .args in
     let e = ap (λ r. r .nulls) (c .before .before .before .before .null-count .ensures) in
-    state-full (onlyMasks (a .masks .now)) (a .c) (λ z. c .before .before .before .if1 .left (e ∙ z))
+    state-full (onlyWords (a .values .now) (a .masks .now)) (a .c) (λ z. c .before .before .before .if1 .left (e ∙ z))
     (ap (λ (n : ℕ). isFullyNull n (a .c .slots)) (sym e) ∙ sym (c .before .is-fully-null .ensures) ∙ c .if2 .taken)
 
 returns-3 : tie.Need-returns-3
 returns-3 c =
-    let a = c .before .before .before .before .before .before .args in
+    let a = c .before .before .before .before .before .before .before .args in
     let e = ap (λ r. r .nulls) (c .before .before .before .before .null-count .ensures) in
-    state-some (onlyMasks (a .masks .now)) (a .c) (λ z. c .before .before .before .if1 .left (e ∙ z))
+    state-some (onlyWords (a .values .now) (a .masks .now)) (a .c) (λ z. c .before .before .before .if1 .left (e ∙ z))
     (ap (λ (n : ℕ). isFullyNull n (a .c .slots)) (sym e) ∙ sym (c .before .is-fully-null .ensures) ∙ c .if2 .left)
 
 pub state-of-spec : {M : Type 1} → statement M

@@ -1,76 +1,58 @@
 use native.Mathlib.Omega.{arith}
-use mathlib.Core.Path.{_≡_, refl, ap, _∙_}
-use Prim.Native.Nat.{_-_, _≤_}
-use lib.ListN.{length, length-set, length-take}
-use mathlib.Core.Logic.{⊎-elim}
+use lib.ListN.{length-take}
+use borrow.Author.Needs.{needs}
 use Rattle.readings.proofs.print.name.Statement.{statement}
 use Rattle.readings.proofs.print.name.Tie as tie
 
-abbrev Inv-loop : tie.InvT-loop
-Inv-loop s out₀ i₀ out i = (length out ≡ 32) × (i ≤ 32)
+slice-aggregate-put-printable : tie.Need-slice-aggregate-put-printable
+slice-aggregate-put-printable c = search needs
 
-abbrev μ-loop : tie.MeasureT-loop
-μ-loop s out₀ i₀ out i = 32 - i
+put-printable-requires : tie.Need-put-printable-requires
+put-printable-requires c κs = search needs
 
-loop-holds : tie.Need-loop-holds Inv-loop μ-loop
-loop-holds c = (refl, omega arith)
+array-share-prefix-out : tie.Need-array-share-prefix-out
+array-share-prefix-out c = search needs
 
-shared-slice-read-shown : tie.Need-shared-slice-read-shown Inv-loop μ-loop
-shared-slice-read-shown c = omega arith
+slice-aggregate-text : tie.Need-slice-aggregate-text
+slice-aggregate-text c = simp length-take (omega arith)
 
-shown-requires : tie.Need-shown-requires Inv-loop μ-loop
-shown-requires c κs = tt
+text-requires : tie.Need-text-requires
+text-requires c κs = search needs
 
-array-write-out : tie.Need-array-write-out Inv-loop μ-loop
-array-write-out c = omega arith
+returns : tie.Need-returns
+returns c = search needs
 
-add-i : tie.Need-add-i Inv-loop μ-loop
-add-i c = omega arith
+slice-aggregate-put-printable-2 : tie.Need-slice-aggregate-put-printable-2
+slice-aggregate-put-printable-2 c = simp length-take (omega arith)
 
-loop-less : tie.Need-loop-less Inv-loop μ-loop
-loop-less c = omega arith
+slice-aggregate-put-printable-3 : tie.Need-slice-aggregate-put-printable-3
+slice-aggregate-put-printable-3 c = search needs
 
-loop-again : tie.Need-loop-again Inv-loop μ-loop
-loop-again c = (⊎-elim (λ w. ap length (w .3) ∙ simp length-set (c .before .before .loop .inv .0)) (λ w. ap length (w .1) ∙ c .before .before .loop .inv .0) (c .if1 .came), omega arith)
+put-printable-requires-2 : tie.Need-put-printable-requires-2
+put-printable-requires-2 c κs = simp length-take (omega arith)
 
-slice-aggregate-text : tie.Need-slice-aggregate-text Inv-loop μ-loop
-slice-aggregate-text c = omega arith
+slice-aggregate-text-2 : tie.Need-slice-aggregate-text-2
+slice-aggregate-text-2 c = search needs
 
-text-requires : tie.Need-text-requires Inv-loop μ-loop
-text-requires c κs = tt
+text-requires-2 : tie.Need-text-requires-2
+text-requires-2 c κs = search needs
 
-returns : tie.Need-returns Inv-loop μ-loop
-returns c = tt
-
-array-share-prefix-out : tie.Need-array-share-prefix-out Inv-loop μ-loop
-array-share-prefix-out c = omega arith
-
-slice-aggregate-text-2 : tie.Need-slice-aggregate-text-2 Inv-loop μ-loop
-slice-aggregate-text-2 c = simp length-take (omega arith)
-
-text-requires-2 : tie.Need-text-requires-2 Inv-loop μ-loop
-text-requires-2 c κs = tt
-
-returns-2 : tie.Need-returns-2 Inv-loop μ-loop
-returns-2 c = tt
+returns-2 : tie.Need-returns-2
+returns-2 c = search needs
 
 pub name-spec : {M : Type 1} → statement M
 name-spec =
     tie.close
     (tie.spec
-    Inv-loop
-    μ-loop
-    loop-holds
-    shared-slice-read-shown
-    shown-requires
-    array-write-out
-    add-i
-    loop-less
-    loop-again
+    slice-aggregate-put-printable
+    put-printable-requires
+    array-share-prefix-out
     slice-aggregate-text
     text-requires
     returns
-    array-share-prefix-out
+    slice-aggregate-put-printable-2
+    slice-aggregate-put-printable-3
+    put-printable-requires-2
     slice-aggregate-text-2
     text-requires-2
     returns-2)

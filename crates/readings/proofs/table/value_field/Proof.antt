@@ -1,3 +1,5 @@
+use Rattle.union_text.specs.Values.{valuesOf}
+use Rattle.union_text.proofs.ValueLaws.{told-size}
 use native.Mathlib.Omega.{arith}
 use lib.ListN.{length-take}
 use borrow.Author.Needs.{needs}
@@ -20,10 +22,10 @@ value-text-requires : tie.Need-value-text-requires
 value-text-requires c κs = search needs
 
 array-share-prefix-out : tie.Need-array-share-prefix-out
-array-share-prefix-out c = search needs
+array-share-prefix-out c = let t = c .before .value-text .ensures in let l = told-size (valuesOf (c .before .before .before .before .args .v .kind)) _ _ _ _ t in omega arith
 
 slice-aggregate-right-2 : tie.Need-slice-aggregate-right-2
-slice-aggregate-right-2 c = simp length-take (omega arith)
+slice-aggregate-right-2 c = let t = c .before .before .value-text .ensures in let l = told-size (valuesOf (c .before .before .before .before .before .args .v .kind)) _ _ _ _ t in simp length-take (omega arith)
 
 right-requires-2 : tie.Need-right-requires-2
 right-requires-2 c κs = search needs

@@ -18,17 +18,14 @@ mul-column c = omega arith
 array-copy-out-column : tie.Need-array-copy-out-column Inv-loop μ-loop
 array-copy-out-column c = omega arith
 
-entry-of-requires : tie.Need-entry-of-requires Inv-loop μ-loop
-entry-of-requires c κs = tt
+id-requires : tie.Need-id-requires Inv-loop μ-loop
+id-requires c κs = tt
 
-size-requires : tie.Need-size-requires Inv-loop μ-loop
-size-requires c κs = tt
+cast-bytes : tie.Need-cast-bytes Inv-loop μ-loop
+cast-bytes c = omega arith
 
-cast-part : tie.Need-cast-part Inv-loop μ-loop
-cast-part c = omega arith
-
-part-requires : tie.Need-part-requires Inv-loop μ-loop
-part-requires c κs = tt
+bytes-requires : tie.Need-bytes-requires Inv-loop μ-loop
+bytes-requires c κs = tt
 
 name-requires : tie.Need-name-requires Inv-loop μ-loop
 name-requires c κs = tt
@@ -54,10 +51,9 @@ each-field-spec =
     loop-holds
     mul-column
     array-copy-out-column
-    entry-of-requires
-    size-requires
-    cast-part
-    part-requires
+    id-requires
+    cast-bytes
+    bytes-requires
     name-requires
     add-k
     loop-less

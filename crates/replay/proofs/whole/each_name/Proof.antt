@@ -18,11 +18,11 @@ mul-place c = omega arith
 array-copy-out-place : tie.Need-array-copy-out-place Inv-loop μ-loop
 array-copy-out-place c = omega arith
 
-cast-part : tie.Need-cast-part Inv-loop μ-loop
-cast-part c = omega arith
+cast-bytes : tie.Need-cast-bytes Inv-loop μ-loop
+cast-bytes c = omega arith
 
-part-requires : tie.Need-part-requires Inv-loop μ-loop
-part-requires c κs = tt
+bytes-requires : tie.Need-bytes-requires Inv-loop μ-loop
+bytes-requires c κs = tt
 
 name-requires : tie.Need-name-requires Inv-loop μ-loop
 name-requires c κs = tt
@@ -48,8 +48,8 @@ each-name-spec =
     loop-holds
     mul-place
     array-copy-out-place
-    cast-part
-    part-requires
+    cast-bytes
+    bytes-requires
     name-requires
     add-k
     loop-less

@@ -1,5 +1,5 @@
-use Rattle.union_array.specs.Buffers.{Buffers, buffersOf}
-use Rattle.union_array.specs.Types.{Sparse, Dense}
+use mathlib.Core.Path.{_∙_}
+use Rattle.array_columns.specs.Buffers.{Buffers, buffersOf}
 use Rattle.union_array.proofs.Lookups.{dense-refused, dense-is}
 use borrow.Author.Needs.{needs}
 use Rattle.union_array.proofs.UnionArray.is_dense.Statement.{statement}
@@ -11,20 +11,24 @@ lent s = let a = s .args in buffersOf (a .type-ids .now) (a .offsets .now) (a .v
 ask-requires : tie.Need-ask-requires
 ask-requires c κs = search needs
 
+no-flag-requires : tie.Need-no-flag-requires
+no-flag-requires c κs = search needs
+
 returns : tie.Need-returns
-returns c = let s = c .before .before .before .before .before in dense-refused (s .args .self) (lent s) (c .before .ask .result) (c .before .ask .ensures) (c .if1 .taken)
+returns c =
+    let q = c .before .before in
+    let s = q .before .before .before .before in
+    c .no-flag .ensures ∙ dense-refused (s .args .self) (lent s) (q .ask .result) (q .ask .ensures) (c .before .if1 .taken)
 
-enum-told : tie.Need-enum-told
-enum-told c = search needs
-
-enum-told-2 : tie.Need-enum-told-2
-enum-told-2 c = search needs
+is-dense-requires : tie.Need-is-dense-requires
+is-dense-requires c κs = search needs
 
 returns-2 : tie.Need-returns-2
-returns-2 c = let s = c .before .before .before .before .before .before .before in dense-is (s .args .self) (lent s) (c .before .before .before .ask .result) Sparse (c .before .before .before .ask .ensures) (c .before .before .if1 .left) (c .enum-told .given .1)
-
-returns-3 : tie.Need-returns-3
-returns-3 c = let s = c .before .before .before .before .before .before .before in dense-is (s .args .self) (lent s) (c .before .before .before .ask .result) Dense (c .before .before .before .ask .ensures) (c .before .before .if1 .left) (c .enum-told2 .given .1)
+returns-2 c =
+    let e = c .before in
+    let q = e .before in
+    let s = q .before .before .before .before in
+    dense-is (s .args .self) (lent s) (q .ask .result) (c .is-dense .result) (q .ask .ensures) (e .if1 .left) (c .is-dense .ensures)
 
 pub is-dense-spec : {M : Type 1} → statement M
-is-dense-spec = tie.close (tie.spec ask-requires returns enum-told enum-told-2 returns-2 returns-3)
+is-dense-spec = tie.close (tie.spec ask-requires no-flag-requires returns is-dense-requires returns-2)

@@ -1,7 +1,7 @@
 use mathlib.Core.Path.{sym, _∙_}
-use Rattle.union_array.specs.Buffers.{Buffers, buffersOf, amountsOf}
+use Rattle.array_columns.specs.Buffers.{Buffers, buffersOf}
 use Rattle.union_array.proofs.Accepted.{accepted}
-use Rattle.union_array.proofs.Lookups.{nullable-refused, nullable-is, masks-in}
+use Rattle.union_array.proofs.Lookups.{nullable-refused, nullable-is, presences-in}
 use borrow.Author.Needs.{needs}
 use Rattle.union_array.proofs.UnionArray.is_nullable.Statement.{statement}
 use Rattle.union_array.proofs.UnionArray.is_nullable.Tie as tie
@@ -12,17 +12,27 @@ lent s = let a = s .args in buffersOf (a .type-ids .now) (a .offsets .now) (a .v
 ask-requires : tie.Need-ask-requires
 ask-requires c κs = search needs
 
+no-flag-requires : tie.Need-no-flag-requires
+no-flag-requires c κs = search needs
+
 returns : tie.Need-returns
-returns c = let s = c .before .before .before .before .before in nullable-refused (s .args .self) (lent s) (c .before .ask .result) (c .before .ask .ensures) (c .if1 .taken)
+returns c =
+    let q = c .before .before in
+    let s = q .before .before .before .before in
+    c .no-flag .ensures ∙ nullable-refused (s .args .self) (lent s) (q .ask .result) (q .ask .ensures) (c .before .if1 .taken)
 
 any-null-requires : tie.Need-any-null-requires
 any-null-requires c κs =
-    let s = c .before .before .before .before .before .before in
-    let z = sym (c .before .before .ask .ensures) ∙ c .before .if1 .left in
-    (accepted (s .args .self) (amountsOf (lent s)) z .few, masks-in (s .args .self) (lent s) z)
+    let q = c .before .before in
+    let s = q .before .before .before .before in
+    let z = sym (q .ask .ensures) ∙ c .before .if1 .left in
+    (accepted (s .args .self) (lent s) z .few, presences-in (s .args .self) (lent s) z)
 
 returns-2 : tie.Need-returns-2
-returns-2 c = let s = c .before .before .before .before .before .before .before in nullable-is (s .args .self) (lent s) (c .before .before .before .ask .result) (c .any-null .result) (c .before .before .before .ask .ensures) (c .before .before .if1 .left) (c .any-null .ensures)
+returns-2 c =
+    let q = c .before .before .before in
+    let s = q .before .before .before .before in
+    nullable-is (s .args .self) (lent s) (q .ask .result) (c .any-null .result) (q .ask .ensures) (c .before .before .if1 .left) (c .any-null .ensures)
 
 pub is-nullable-spec : {M : Type 1} → statement M
-is-nullable-spec = tie.close (tie.spec ask-requires returns any-null-requires returns-2)
+is-nullable-spec = tie.close (tie.spec ask-requires no-flag-requires returns any-null-requires returns-2)

@@ -1,8 +1,8 @@
 use mathlib.Core.Path.{_≡_, _∙_}
-use mir.Syntax.{w8, w32}
+use mir.Syntax.{w8}
 use mir.Val.{toZ, ofZ}
 use mir.Facts.{toZ-ofZ}
-use Rattle.union_array.specs.Buffers.{Buffers, buffersOf}
+use Rattle.array_columns.specs.Buffers.{Buffers, buffersOf}
 use Rattle.union_array.specs.ChildSlot.{childSlotOf}
 use Rattle.union_array.proofs.ChildSlots.{found-is, value-offset-is}
 use borrow.Author.Needs.{needs}
@@ -12,31 +12,33 @@ use Rattle.union_array.proofs.UnionArray.value_offset.Tie as tie
 abbrev lent : tie.Start → Buffers
 lent s = let a = s .args in buffersOf (a .type-ids .now) (a .offsets .now) (a .values .now) (a .masks .now) (a .names .now)
 
+abbrev start : tie.After-slot-in-child → tie.Start
+start c = let i = c .before .before .before in i .before .before .before .before
+
 -- slot i's child and its slot in it
-found : (c : tie.After-settle) → let s = c .before .before .before .before .before .before .before in c .settle .result ≡ childSlotOf (s .args .self) (lent s) (s .args .i)
+found : (c : tie.After-slot-in-child) → let s = start c in c .slot-in-child .result ≡ childSlotOf (s .args .self) (lent s) (s .args .i)
 found c =
-    let s = c .before .before .before .before .before .before .before in
-    let x = c .before .before .before .id-at .result in
-    let z = c .before .before .offset-at .result in
-    found-is (s .args .self) (lent s) (s .args .i) (toZ w8 (ofZ w8 x)) (toZ w32 (ofZ w32 z)) (c .before .look .result) (c .settle .result)
-    (toZ-ofZ {w = w8} {z = x} (record { sfits = c .before .before .before .id-at .ok }) ∙ c .before .before .before .id-at .ensures) (toZ-ofZ {w = w32} {z = z} (record { sfits = c .before .before .offset-at .ok }) ∙ c .before .before .offset-at .ensures)
-    (c .before .look .ensures) (c .settle .ensures)
+    let s = start c in
+    let l = c .before .before in
+    let i = l .before in
+    let x = i .id-at .result in
+    found-is (s .args .self) (lent s) (s .args .i) (toZ w8 (ofZ w8 x)) (l .look .result) (c .slot-in-child .result)
+    (toZ-ofZ {w = w8} {z = x} (record { sfits = i .id-at .ok }) ∙ i .id-at .ensures) (l .look .ensures) (rw (c .before .head-of .ensures) at (c .slot-in-child .ensures))
 
 id-at-requires : tie.Need-id-at-requires
 id-at-requires c κs = search needs
 
-offset-at-requires : tie.Need-offset-at-requires
-offset-at-requires c κs = search needs
-
 look-requires : tie.Need-look-requires
 look-requires c κs = search needs
 
-settle-requires : tie.Need-settle-requires
-settle-requires c κs = search needs
+head-of-requires : tie.Need-head-of-requires
+head-of-requires c κs = search needs
+
+slot-in-child-requires : tie.Need-slot-in-child-requires
+slot-in-child-requires c κs = search needs
 
 returns : tie.Need-returns
-returns c = let s = c .before .before .before .before .before .before .before in value-offset-is (s .args .self) (lent s) (s .args .i) (c .settle .result) (found c)
+returns c = let s = start c in value-offset-is (s .args .self) (lent s) (s .args .i) (c .slot-in-child .result) (found c)
 
 pub value-offset-spec : {M : Type 1} → statement M
-value-offset-spec =
-    tie.close (tie.spec id-at-requires offset-at-requires look-requires settle-requires returns)
+value-offset-spec = tie.close (tie.spec id-at-requires look-requires head-of-requires slot-in-child-requires returns)

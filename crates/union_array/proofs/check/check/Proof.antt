@@ -1,6 +1,6 @@
 use mathlib.Core.Path.{_≡_, sym, _∙_}
 use borrow.Author.Needs.{needs}
-use Rattle.union_array.specs.Buffers.{Buffers, buffersOf, amountsOf}
+use Rattle.array_columns.specs.Buffers.{Buffers, buffersOf}
 use Rattle.union_array.specs.Questions.{asked}
 use Rattle.union_array.proofs.Checked.{checked-refused, checked-slots, readable}
 use Rattle.union_array.proofs.check.check.Statement.{statement}
@@ -9,7 +9,10 @@ use Rattle.union_array.proofs.check.check.Tie as tie
 abbrev lent : (c : tie.Start) → Buffers
 lent c = let a = c .args in buffersOf (a .type-ids .now) (a .offsets .now) (a .values .now) (a .masks .now) (a .names .now)
 
-none : (c : tie.Else1) → let s = c .before .before .before .before .before in asked (s .args .a) (amountsOf (lent s)) ≡ 0
+abbrev start : tie.After-ask → tie.Start
+start c = c .before .before .before .before
+
+none : (c : tie.Else1) → let s = start (c .before) in asked (s .args .a) (lent s) ≡ 0
 none c = sym (c .before .ask .ensures) ∙ c .if1 .left
 
 ask-requires : tie.Need-ask-requires
@@ -18,15 +21,15 @@ ask-requires c κs = search needs
 returns : tie.Need-returns
 returns c =
     let e = c .before .ask .ensures in
-    let s = c .before .before .before .before .before in
+    let s = start (c .before) in
     e ∙ checked-refused (s .args .a) (lent s) (λ z. c .if1 .taken (e ∙ z))
 
 check-slots-requires : tie.Need-check-slots-requires
-check-slots-requires c κs = let s = c .before .before .before .before .before in readable (s .args .a) (lent s) (none c)
+check-slots-requires c κs = let s = start (c .before) in readable (s .args .a) (lent s) (none c)
 
 returns-2 : tie.Need-returns-2
 returns-2 c =
-    let s = c .before .before .before .before .before .before in
+    let s = start (c .before .before) in
     c .check-slots .ensures ∙ checked-slots (s .args .a) (lent s) (none (c .before))
 
 pub check-spec : {M : Type 1} → statement M

@@ -15,8 +15,8 @@ use Rattle.union_array.specs.Slots.{columnOf, isSome, typeIdAt, inUse}
 use Rattle.union_array.specs.Questions.{validId, namedAt, question7}
 use Rattle.union_array.specs.Pass.{entryOf}
 use Rattle.union_array.specs.Check.{onlySlots}
-use Rattle.union_array.proofs.Signed.{id-read}
-use Rattle.union_array.proofs.Columns.{all-at, unnamed-turn, named-at}
+use Rattle.array_columns.proofs.Signed.{id-read}
+use Rattle.array_columns.proofs.Columns.{all-at, unnamed-turn, named-at}
 use Rattle.union_array.proofs.Known.{Known, known-none, known-is, known-more}
 use Rattle.union_array.proofs.check.ids_named.Statement.{statement}
 use Rattle.union_array.proofs.check.ids_named.Tie as tie

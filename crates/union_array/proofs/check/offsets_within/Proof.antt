@@ -17,8 +17,8 @@ use Rattle.union_array.specs.Slots.{inUse, typeIdAt, offsetAt, childAt}
 use Rattle.union_array.specs.Questions.{withinChild}
 use Rattle.union_array.specs.Pass.{entryOf}
 use Rattle.union_array.specs.Check.{onlySlots}
-use Rattle.union_array.proofs.Signed.{id-read}
-use Rattle.union_array.proofs.SlotTable.{table-length, table-within}
+use Rattle.array_columns.proofs.Signed.{id-read}
+use Rattle.array_columns.proofs.ById.{table-length, table-within}
 use Rattle.union_array.proofs.check.offsets_within.Statement.{statement}
 use Rattle.union_array.proofs.check.offsets_within.Tie as tie
 
@@ -36,7 +36,7 @@ slots-by-id-requires : tie.Need-slots-by-id-requires Inv-loop μ-loop
 slots-by-id-requires c κs = search needs
 
 loop-holds : tie.Need-loop-holds Inv-loop μ-loop
-loop-holds c = (search needs, ap length (c .slots-by-id .ensures) ∙ table-length (inUse (c .before .before .args .a)), refl)
+loop-holds c = (search needs, ap length (c .slots-by-id .ensures) ∙ table-length 0 (λ k c. c .slots) 0 (inUse (c .before .before .args .a)), refl)
 
 add-entry-of : tie.Need-add-entry-of Inv-loop μ-loop
 add-entry-of c = search needs

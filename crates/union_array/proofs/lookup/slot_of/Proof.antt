@@ -1,7 +1,7 @@
 use lib.Dec.{lit≤}
 use lib.IntN.{natAbs}
 use mathlib.Core.Path.{ap}
-use Rattle.union_array.proofs.Signed.{fits-abs}
+use Rattle.array_columns.proofs.Signed.{fits-abs}
 use Rattle.union_array.proofs.ChildSlots.{not-below}
 use mir.Facts.{toZ-ofZ}
 use Rattle.union_array.proofs.lookup.slot_of.Statement.{statement}

@@ -1,8 +1,13 @@
-use mathlib.Core.Path.{ap}
+use mathlib.Core.Path.{sym, ap, _∙_}
 use borrow.Author.Needs.{needs}
-use Rattle.union_array.specs.Look.{Looked, lookOf}
+use Rattle.array_columns.specs.Buffers.{buffersOf}
+use Rattle.union_array.specs.Look.{Looked}
+use Rattle.union_array.proofs.OnePass.{asked-of}
 use Rattle.union_array.proofs.questions.ask.Statement.{statement}
 use Rattle.union_array.proofs.questions.ask.Tie as tie
+
+amounts-requires : tie.Need-amounts-requires
+amounts-requires c κs = search needs
 
 head-of-requires : tie.Need-head-of-requires
 head-of-requires c κs = search needs
@@ -11,8 +16,11 @@ look-in-requires : tie.Need-look-in-requires
 look-in-requires c κs = search needs
 
 returns : tie.Need-returns
-unfolding lookOf
-returns c = ap (λ (l : Looked). l .refusal) (rw (c .before .head-of .ensures) at (c .look-in .ensures))
+returns c =
+    let h = c .before in
+    let a = h .before .before .before .before .before .before .args in
+    ap (λ (l : Looked). l .refusal) (rw (h .head-of .ensures, h .before .amounts .ensures) at (c .look-in .ensures))
+    ∙ sym (asked-of (a .a) (buffersOf (a .type-ids .now) (a .offsets .now) (a .values .now) (a .masks .now) (a .names .now)))
 
 pub ask-spec : {M : Type 1} → statement M
-ask-spec = tie.close (tie.spec head-of-requires look-in-requires returns)
+ask-spec = tie.close (tie.spec amounts-requires head-of-requires look-in-requires returns)

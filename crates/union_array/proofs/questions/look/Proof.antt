@@ -1,7 +1,16 @@
-use borrow.Author.Needs.{needs}
+use mathlib.Core.Path.{_∙_}
 use mir.Facts.{toZ-ofZ}
+use Rattle.array_columns.specs.Buffers.{Buffers, buffersOf}
+use Rattle.union_array.proofs.OnePass.{look-is}
+use borrow.Author.Needs.{needs}
 use Rattle.union_array.proofs.questions.look.Statement.{statement}
 use Rattle.union_array.proofs.questions.look.Tie as tie
+
+abbrev lent : tie.Start → Buffers
+lent s = let a = s .args in buffersOf (a .type-ids .now) (a .offsets .now) (a .values .now) (a .masks .now) (a .names .now)
+
+amounts-requires : tie.Need-amounts-requires
+amounts-requires c κs = search needs
 
 head-of-requires : tie.Need-head-of-requires
 head-of-requires c κs = search needs
@@ -10,7 +19,10 @@ look-in-requires : tie.Need-look-in-requires
 look-in-requires c κs = search needs
 
 returns : tie.Need-returns
-returns c = rw (c .before .head-of .ensures, toZ-ofZ (c .before .before .before .fits .id)) at (c .look-in .ensures)
+returns c =
+    let h = c .before in
+    let s = h .before .before .before .before .before .before in
+    rw (h .head-of .ensures, h .before .amounts .ensures, toZ-ofZ (s .fits .id)) at (c .look-in .ensures) ∙ look-is (s .args .a) (lent s) (s .args .id)
 
 pub look-spec : {M : Type 1} → statement M
-look-spec = tie.close (tie.spec head-of-requires look-in-requires returns)
+look-spec = tie.close (tie.spec amounts-requires head-of-requires look-in-requires returns)

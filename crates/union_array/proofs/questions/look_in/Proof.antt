@@ -2,14 +2,14 @@ use mathlib.Core.Path.{_≡_, sym, ap, _∙_}
 use native.Mathlib.Omega.{arith}
 use borrow.Author.Needs.{needs}
 use mir.Facts.{toZ-ofZ}
-use Rattle.union_array.specs.Pass.{Passed, arrayOf}
-use Rattle.union_array.specs.Questions.{asked}
+use Rattle.union_array.specs.Types.{arrayOf}
+use Rattle.union_array.specs.Pass.{Passed, askedOf}
 use Rattle.union_array.proofs.OnePass.{asked-is, asked-many, look-refused, look-accepted}
 use Rattle.union_array.proofs.questions.look_in.Statement.{statement}
 use Rattle.union_array.proofs.questions.look_in.Tie as tie
 
 -- the calls tell the first no
-told : (c : tie.After-first-no) → let a = c .before .before .before .before .before .before .args in c .first-no .result ≡ asked (arrayOf (a .h) (a .columns)) (a .lent)
+told : (c : tie.After-first-no) → let a = c .before .before .before .before .before .before .args in c .first-no .result ≡ askedOf (arrayOf (a .h) (a .columns)) (a .lent)
 told c =
     let h = c .before in
     let p = h .before in

@@ -43,15 +43,15 @@ use denote.Exit.{yes}
 use denote.Signature.{plain, shrSliceOf}
 use Rattle.union_builder.specs.declared.UnionBuilder.{UnionBuilder}
 use Rattle.union_builder.specs.declared.Appended.{Appended}
-use Rattle.union_array.specs.Buffers.{buffersOf}
-use Rattle.union_array.specs.declared.Kind.{Kind}
+use Rattle.array_columns.specs.Buffers.{buffersOf}
+use Rattle.array_columns.specs.declared.Kind.{Kind}
 use Rattle.union_builder.specs.Append.{outcome, appendOf}
 use Rattle.union_builder.proofs.UnionBuilder as T
 use Rattle.union_builder.proofs.UnionBuilder.Laws as T′
 use Rattle.union_builder.proofs.Appended as D
 use Rattle.union_builder.proofs.Appended.Laws as D′
-use Rattle.union_array.proofs.Kind as KindT
-use Rattle.union_array.proofs.Kind.Laws as KindL
+use Rattle.array_columns.proofs.Kind as KindT
+use Rattle.array_columns.proofs.Kind.Laws as KindL
 use Rattle.union_builder.proofs.UnionBuilder.append as append
 use Rattle.union_builder.proofs.UnionBuilder.append.Symbol as callee-def
 use Rattle.union_builder.proofs.UnionBuilder.append.Symbol.{name as #callee}

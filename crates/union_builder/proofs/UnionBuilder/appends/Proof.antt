@@ -1,9 +1,10 @@
 -- Lengths that do not match change nothing; otherwise the readings are appended. Assumes nothing.
-use mathlib.Core.Path.{_≡_, sym, _∙_}
+use mathlib.Core.Path.{_≡_, sym, ap, _∙_}
 use borrow.Author.Needs.{needs}
 use borrow.Author.Tests.{not-true, not-false}
 use lib.ListN.{length}
-use Rattle.union_array.specs.Buffers.{Buffers, buffersOf}
+use Rattle.array_columns.specs.Buffers.{Buffers, buffersOf}
+use Rattle.union_builder.specs.Builder.{openChecked}
 use Rattle.union_builder.specs.Appends.{Readings, readingsOf, lengthsMatch}
 use Rattle.union_builder.proofs.Readings.{lengths-only, appends-no, appends-yes}
 use Rattle.union_builder.proofs.UnionBuilder.appends.Statement.{statement}
@@ -27,11 +28,18 @@ returns c =
     let s = c .before .before .before .before .before .before .before .before .before .before .before .before in
     appends-no (s .args .self) (lent s) (readings s) (s .args .refusals .now) (asked (c .before) ∙ not-true _ (c .if1 .taken))
 
-builder-checked-requires : tie.Need-builder-checked-requires
-builder-checked-requires c κs = search needs
+amounts-requires : tie.Need-amounts-requires
+amounts-requires c κs = search needs
+
+open-checked-requires : tie.Need-open-checked-requires
+open-checked-requires c κs = search needs
 
 append-each-requires : tie.Need-append-each-requires
-append-each-requires c κs = let e = c .before .before .before .before .before .before .before in (c .before .before .before .before .before .before .builder-checked .ensures, asked (e .before) ∙ not-false _ (e .if1 .left))
+append-each-requires c κs =
+    let o = c .before .before .before .before .before .before in
+    let e = o .before .before .before .before .before .before .before in
+    let s = e .before .before .before .before .before .before .before .before .before .before .before .before in
+    (o .open-checked .ensures ∙ ap (openChecked (s .args .self)) (o .before .amounts .ensures), asked (e .before) ∙ not-false _ (e .if1 .left))
 
 same-length : tie.Need-same-length
 same-length c = search needs
@@ -53,9 +61,10 @@ same-length-6 c = search needs
 
 returns-2 : tie.Need-returns-2
 returns-2 c =
-    let e = c .before .before .before .before .before .before .before .before .before .before .before .before .before .before .before .before .before .before in
+    let r = c .before .before .before .before .before .before .before .before .before .before in
+    let e = r .before .before .before .before .before .before .before .before .before .before .before .before .before .before in
     let s = e .before .before .before .before .before .before .before .before .before .before .before .before in
-    appends-yes (s .args .self) (lent s) (readings s) (s .args .refusals .now) (asked (e .before) ∙ not-false _ (e .if1 .left)) _ (c .before .before .before .before .before .before .before .before .before .before .append-each .ensures)
+    appends-yes (s .args .self) (lent s) (readings s) (s .args .refusals .now) (asked (e .before) ∙ not-false _ (e .if1 .left)) _ (r .append-each .ensures)
 
 pub appends-spec : {M : Type 1} → statement M
 appends-spec =
@@ -63,7 +72,8 @@ appends-spec =
     (tie.spec
     lengths-match-requires
     returns
-    builder-checked-requires
+    amounts-requires
+    open-checked-requires
     append-each-requires
     same-length
     same-length-2

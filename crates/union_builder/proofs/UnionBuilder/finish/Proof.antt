@@ -1,28 +1,48 @@
-use Rattle.union_array.specs.Buffers.{buffersOf}
-use Rattle.union_builder.proofs.Finishing.{finish-refused, finish-accepted}
+-- The answer of an open builder, handed back empty. Assumes nothing.
+use mathlib.Core.Path.{sym, ap, _∙_}
 use borrow.Author.Needs.{needs}
+use Rattle.array_columns.specs.Buffers.{buffersOf, amountsOf}
+use Rattle.union_builder.specs.Builder.{openChecked}
+use Rattle.union_builder.proofs.Asking.{open-checked}
+use Rattle.union_builder.proofs.Finishing.{describable, finish-refused, finish-accepted}
 use Rattle.union_builder.proofs.UnionBuilder.finish.Statement.{statement}
 use Rattle.union_builder.proofs.UnionBuilder.finish.Tie as tie
 
-finish-cloned-requires : tie.Need-finish-cloned-requires
-finish-cloned-requires c κs = search needs
+amounts-requires : tie.Need-amounts-requires
+amounts-requires c κs = search needs
+
+open-checked-requires : tie.Need-open-checked-requires
+open-checked-requires c κs = search needs
+
+described-requires : tie.Need-described-requires
+described-requires c κs =
+    let s = c .before .before in
+    let a = s .before .before .before .args in
+    let m = buffersOf (a .type-ids .now) (a .offsets .now) (a .values .now) (a .masks .now) (a .names .now) in
+    λ e. describable (a .self) (amountsOf m) (open-checked (a .self) (amountsOf m) (sym (c .open-checked .ensures ∙ ap (openChecked (a .self)) (c .before .amounts .ensures)) ∙ e))
 
 emptied-requires : tie.Need-emptied-requires
 emptied-requires c κs = search needs
 
 returns : tie.Need-returns
 returns c =
-    let r = c .before .before .before in
-    let a = r .before .before .before .before .args in
+    let d = c .before .before .before in
+    let n = d .before .open-checked in
+    let l = d .before .before .amounts in
+    let s = d .before .before .before in
+    let a = s .before .before .before .args in
     let m = buffersOf (a .type-ids .now) (a .offsets .now) (a .values .now) (a .masks .now) (a .names .now) in
-    finish-accepted (a .self) m (r .finish-cloned .result) (c .emptied .result) (r .finish-cloned .ensures) (c .before .if1 .taken) (c .emptied .ensures)
+    finish-accepted (a .self) m (d .described .result) (n .result) (d .described .ensures) (n .ensures ∙ ap (openChecked (a .self)) (l .ensures)) (c .emptied .result) (c .before .if1 .taken) (c .emptied .ensures)
 
 returns-2 : tie.Need-returns-2
 returns-2 c =
-    let r = c .before .before in
-    let a = r .before .before .before .before .args in
+    let d = c .before .before in
+    let n = d .before .open-checked in
+    let l = d .before .before .amounts in
+    let s = d .before .before .before in
+    let a = s .before .before .before .args in
     let m = buffersOf (a .type-ids .now) (a .offsets .now) (a .values .now) (a .masks .now) (a .names .now) in
-    finish-refused (a .self) m (r .finish-cloned .result) (r .finish-cloned .ensures) (c .if1 .left)
+    finish-refused (a .self) m (d .described .result) (n .result) (d .described .ensures) (n .ensures ∙ ap (openChecked (a .self)) (l .ensures)) (c .if1 .left)
 
 pub finish-spec : {M : Type 1} → statement M
-finish-spec = tie.close (tie.spec finish-cloned-requires emptied-requires returns returns-2)
+finish-spec = tie.close (tie.spec amounts-requires open-checked-requires described-requires emptied-requires returns returns-2)

@@ -1,37 +1,33 @@
-use mathlib.Core.Path.{sym, _∙_}
-use Rattle.union_array.specs.Buffers.{buffersOf, amountsOf}
-use Rattle.union_builder.proofs.Finishing.{describable, cloned-refused, cloned-accepted}
+-- What 15 and 16 accept can be described. Assumes nothing.
+use mathlib.Core.Path.{sym, ap, _∙_}
 use borrow.Author.Needs.{needs}
+use Rattle.array_columns.specs.Buffers.{buffersOf, amountsOf}
+use Rattle.union_builder.specs.Builder.{builderChecked}
+use Rattle.union_builder.proofs.Finishing.{describable, cloned-is}
 use Rattle.union_builder.proofs.UnionBuilder.finish_cloned.Statement.{statement}
 use Rattle.union_builder.proofs.UnionBuilder.finish_cloned.Tie as tie
+
+amounts-requires : tie.Need-amounts-requires
+amounts-requires c κs = search needs
 
 builder-checked-requires : tie.Need-builder-checked-requires
 builder-checked-requires c κs = search needs
 
-blank-requires : tie.Need-blank-requires
-blank-requires c κs = search needs
+described-requires : tie.Need-described-requires
+described-requires c κs =
+    let s = c .before .before in
+    let a = s .before .before .before .args in
+    let m = buffersOf (a .type-ids .now) (a .offsets .now) (a .values .now) (a .masks .now) (a .names .now) in
+    λ e. describable (a .self) (amountsOf m) (sym (c .builder-checked .ensures ∙ ap (builderChecked (a .self)) (c .before .amounts .ensures)) ∙ e)
 
 returns : tie.Need-returns
 returns c =
-    let a = c .before .before .before .before .before .before .args in
+    let n = c .before .builder-checked in
+    let l = c .before .before .amounts in
+    let s = c .before .before .before in
+    let a = s .before .before .before .args in
     let m = buffersOf (a .type-ids .now) (a .offsets .now) (a .values .now) (a .masks .now) (a .names .now) in
-    let n = c .before .before .builder-checked in
-    cloned-refused (a .self) m (n .result) (c .blank .result) (n .ensures) (c .before .if1 .taken) (c .blank .ensures)
-
-describe-requires : tie.Need-describe-requires
-describe-requires c κs =
-    let a = c .before .before .before .before .before .args in
-    let m = buffersOf (a .type-ids .now) (a .offsets .now) (a .values .now) (a .masks .now) (a .names .now) in
-    describable (a .self) (amountsOf m) (sym (c .before .builder-checked .ensures) ∙ c .if1 .left)
-
-returns-2 : tie.Need-returns-2
-returns-2 c =
-    let a = c .before .before .before .before .before .before .args in
-    let m = buffersOf (a .type-ids .now) (a .offsets .now) (a .values .now) (a .masks .now) (a .names .now) in
-    let n = c .before .before .builder-checked in
-    cloned-accepted (a .self) m (n .result) (c .describe .result) (n .ensures) (c .before .if1 .left) (c .describe .ensures)
+    cloned-is (a .self) m (c .described .result) (n .result) (c .described .ensures) (n .ensures ∙ ap (builderChecked (a .self)) (l .ensures))
 
 pub finish-cloned-spec : {M : Type 1} → statement M
-finish-cloned-spec =
-    tie.close
-    (tie.spec builder-checked-requires blank-requires returns describe-requires returns-2)
+finish-cloned-spec = tie.close (tie.spec amounts-requires builder-checked-requires described-requires returns)

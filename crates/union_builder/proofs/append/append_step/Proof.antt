@@ -2,9 +2,9 @@
 use mathlib.Core.Path.{_≡_, sym, _∙_}
 use native.Mathlib.Omega.{arith}
 use borrow.Author.Needs.{needs}
-use Rattle.union_array.specs.Buffers.{buffersOf, amountsOf}
+use Rattle.array_columns.specs.Buffers.{buffersOf, amountsOf}
 use Rattle.union_builder.specs.Append.{someIf}
-use Rattle.union_builder.proofs.Appending.{checked-searchable, append-no, append-writable, append-sound, append-yes}
+use Rattle.union_builder.proofs.Appending.{open-searchable, append-no, append-writable, append-sound, append-yes}
 use Rattle.union_builder.proofs.append.append_step.Statement.{statement}
 use Rattle.union_builder.proofs.append.append_step.Tie as tie
 
@@ -12,7 +12,7 @@ plan-requires : tie.Need-plan-requires
 plan-requires c κs =
     let a = c .before .before .before .before .before .args in
     let m = buffersOf (a .type-ids .now) (a .offsets .now) (a .values .now) (a .masks .now) (a .names .now) in
-    λ e. checked-searchable (a .b) (amountsOf m) (sym (c .before .before .before .before .before .pre) ∙ e)
+    λ e. open-searchable (a .b) (amountsOf m) (sym (c .before .before .before .before .before .pre) ∙ e)
 
 same-length : tie.Need-same-length
 same-length c = search needs

@@ -3,9 +3,9 @@ use Prim.Native.Nat.{ℕ, _+_, _-_}
 use native.Mathlib.Omega.{arith}
 use borrow.Author.Tests.{not-true, not-false}
 use lib.ListN.{length, take, drop}
-use Rattle.union_array.specs.Buffers.{buffersOf}
+use Rattle.array_columns.specs.Buffers.{buffersOf}
 use Rattle.union_builder.specs.Append.{someIf}
-use Rattle.union_array.specs.Numbers.{flagFrom}
+use Rattle.array_columns.specs.Numbers.{flagFrom}
 use Rattle.union_builder.proofs.Readings.{reading-in, reading-bad, bad-sound, reading-good}
 use borrow.Author.Needs.{needs}
 use Rattle.union_builder.proofs.appends.append_reading.Statement.{statement}

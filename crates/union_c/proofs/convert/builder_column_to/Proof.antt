@@ -5,11 +5,11 @@ use Rattle.union_c.proofs.convert.builder_column_to.Tie as tie
 kind-number-requires : tie.Need-kind-number-requires
 kind-number-requires c κs = search needs
 
-flag-to-requires : tie.Need-flag-to-requires
-flag-to-requires c κs = search needs
+flag-number-requires : tie.Need-flag-number-requires
+flag-number-requires c κs = search needs
 
 returns : tie.Need-returns
-returns c = rw (c .before .kind-number .ensures, c .flag-to .ensures)
+returns c = rw (c .before .kind-number .ensures, c .flag-number .ensures)
 
 pub builder-column-to-spec : {M : Type 1} → statement M
-builder-column-to-spec = tie.close (tie.spec kind-number-requires flag-to-requires returns)
+builder-column-to-spec = tie.close (tie.spec kind-number-requires flag-number-requires returns)

@@ -1,12 +1,12 @@
--- A builder whose numbers name no case is handed back; so is that of a refused run. Assumes nothing.
+-- A builder whose numbers name no case is handed back. Assumes nothing.
 use mathlib.Core.Path.{_≡_, sym, _∙_}
 use mathlib.Core.Bool.{true}
 use borrow.Author.Needs.{needs}
 use borrow.Author.Tests.{not-true, not-false}
-use Rattle.union_array.specs.Buffers.{Buffers, buffersOf}
+use Rattle.array_columns.specs.Buffers.{Buffers, buffersOf}
 use Rattle.union_builder.specs.Appends.{Readings, readingsOf}
 use Rattle.union_c.specs.Builders.{isBuilder}
-use Rattle.union_ffi.proofs.Readings.{appends-bad, appends-refused, appends-accepted}
+use Rattle.union_ffi.proofs.Readings.{appends-bad, appends-good}
 use Rattle.union_ffi.proofs.appends.union_builder_appends.Statement.{statement}
 use Rattle.union_ffi.proofs.appends.union_builder_appends.Tie as tie
 
@@ -33,6 +33,9 @@ builder-from-requires c κs = search needs
 appends-requires : tie.Need-appends-requires
 appends-requires c κs = search needs
 
+appended-to-requires : tie.Need-appended-to-requires
+appended-to-requires c κs = search needs
+
 same-length : tie.Need-same-length
 same-length c = search needs
 
@@ -53,39 +56,11 @@ same-length-6 c = search needs
 
 returns-2 : tie.Need-returns-2
 returns-2 c =
-    let o = c .before .before .before .before .before .before .before .before .before .before .before .before .appends in
-    let u = c .before .before .before .before .before .before .before .before .before .before .before .before .before .before .before .before .before .before .before .builder-from in
-    let s = c .before .before .before .before .before .before .before .before .before .before .before .before .before .before .before .before .before .before .before .before .before .before .before .before .before .before .before .before .before .before .before .before in
-    appends-refused (s .args .builder) (lent s) (readings s) (s .args .refusals .now) (is-builder-yes (c .before .before .before .before .before .before .before .before .before .before .before .before .before .before .before .before .before .before .before .before)) (u .result) (u .ensures) (o .result) _ _ (o .ensures) (c .if2 .taken)
-
-builder-into-requires : tie.Need-builder-into-requires
-builder-into-requires c κs = search needs
-
-same-length-7 : tie.Need-same-length-7
-same-length-7 c = search needs
-
-same-length-8 : tie.Need-same-length-8
-same-length-8 c = search needs
-
-same-length-9 : tie.Need-same-length-9
-same-length-9 c = search needs
-
-same-length-10 : tie.Need-same-length-10
-same-length-10 c = search needs
-
-same-length-11 : tie.Need-same-length-11
-same-length-11 c = search needs
-
-same-length-12 : tie.Need-same-length-12
-same-length-12 c = search needs
-
-returns-3 : tie.Need-returns-3
-returns-3 c =
-    let o = c .before .before .before .before .before .before .before .before .before .before .before .before .before .before .appends in
-    let u = c .before .before .before .before .before .before .before .before .before .before .before .before .before .before .before .before .before .before .before .before .before .builder-from in
-    let s = c .before .before .before .before .before .before .before .before .before .before .before .before .before .before .before .before .before .before .before .before .before .before .before .before .before .before .before .before .before .before .before .before .before .before in
-    appends-accepted (s .args .builder) (lent s) (readings s) (s .args .refusals .now) (is-builder-yes (c .before .before .before .before .before .before .before .before .before .before .before .before .before .before .before .before .before .before .before .before .before .before)) (u .result) (u .ensures) (o .result) _ _ (o .ensures) (c .before .before .if2 .left)
-    (c .builder-into .result) (c .builder-into .ensures)
+    let o = c .before .before .before .before .before .before .before .before .before .before .before in
+    let u = o .before .before .before .before .before .before .before in
+    let i = u .before in
+    let s = i .before .before .before .before .before .before .before .before .before .before .before .before in
+    appends-good (s .args .builder) (lent s) (readings s) (s .args .refusals .now) (is-builder-yes i) (u .builder-from .result) (u .builder-from .ensures) (o .appends .result) _ _ (o .appends .ensures) (c .appended-to .result) (c .appended-to .ensures)
 
 pub union-builder-appends-spec : {M : Type 1} → statement M
 union-builder-appends-spec =
@@ -95,18 +70,11 @@ union-builder-appends-spec =
     returns
     builder-from-requires
     appends-requires
+    appended-to-requires
     same-length
     same-length-2
     same-length-3
     same-length-4
     same-length-5
     same-length-6
-    returns-2
-    builder-into-requires
-    same-length-7
-    same-length-8
-    same-length-9
-    same-length-10
-    same-length-11
-    same-length-12
-    returns-3)
+    returns-2)

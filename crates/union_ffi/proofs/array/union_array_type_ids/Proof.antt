@@ -1,7 +1,7 @@
 use mathlib.Core.Path.{_≡_, sym, ap, _∙_}
 use mathlib.Core.Bool.{true, false}
 use borrow.Author.Tests.{not-true, not-false}
-use Rattle.union_array.specs.Buffers.{buffersOf, amountsOf}
+use Rattle.array_columns.specs.Buffers.{buffersOf}
 use Rattle.union_array.specs.Questions.{asked}
 use Rattle.union_c.specs.Arrays.{isArray, arrayFrom}
 use Rattle.union_ffi.specs.Arrays.{cTypeIds}
@@ -32,7 +32,7 @@ returns-2 c =
     let a = p .array in
     let m = buffersOf (p .type-ids .now) (p .offsets .now) (p .values .now) (p .masks .now) (p .names .now) in
     let good : isArray a ≡ true = sym (c .before .before .before .before .is-array .ensures) ∙ not-false _ (c .before .before .before .if1 .left) in
-    let e : c .before .ask .result ≡ asked (arrayFrom a) (amountsOf m) = c .before .ask .ensures ∙ ap (λ u. asked u (amountsOf m)) (c .before .before .array-from .ensures) in
+    let e : c .before .ask .result ≡ asked (arrayFrom a) m = c .before .ask .ensures ∙ ap (λ u. asked u m) (c .before .before .array-from .ensures) in
     rw (good, ← e) (part-refused (arrayFrom a) (c .before .ask .result) (c .if2 .taken))
 
 returns-3 : tie.Need-returns-3
@@ -42,7 +42,7 @@ returns-3 c =
     let a = p .array in
     let m = buffersOf (p .type-ids .now) (p .offsets .now) (p .values .now) (p .masks .now) (p .names .now) in
     let good : isArray a ≡ true = sym (c .before .before .before .before .is-array .ensures) ∙ not-false _ (c .before .before .before .if1 .left) in
-    let e : c .before .ask .result ≡ asked (arrayFrom a) (amountsOf m) = c .before .ask .ensures ∙ ap (λ u. asked u (amountsOf m)) (c .before .before .array-from .ensures) in
+    let e : c .before .ask .result ≡ asked (arrayFrom a) m = c .before .ask .ensures ∙ ap (λ u. asked u m) (c .before .before .array-from .ensures) in
     rw (good, ← e, c .if2 .left, c .before .before .array-from .ensures)
 
 pub union-array-type-ids-spec : {M : Type 1} → statement M

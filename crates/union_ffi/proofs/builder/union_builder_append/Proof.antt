@@ -2,7 +2,7 @@ use mathlib.Core.Path.{sym, _∙_}
 use mathlib.Core.Option.{some}
 use native.Mathlib.Omega.{arith}
 use borrow.Author.Tests.{not-true, not-false}
-use Rattle.union_array.specs.Buffers.{buffersOf}
+use Rattle.array_columns.specs.Buffers.{buffersOf}
 use Rattle.union_ffi.proofs.Boundary.{append-bad, append-kind, append-good}
 use borrow.Author.Needs.{needs}
 use Rattle.union_ffi.proofs.builder.union_builder_append.Statement.{statement}

@@ -1,6 +1,6 @@
 use mathlib.Core.Path.{sym, _∙_}
 use borrow.Author.Tests.{not-true, not-false}
-use Rattle.union_array.specs.Buffers.{buffersOf}
+use Rattle.array_columns.specs.Buffers.{buffersOf}
 use Rattle.union_ffi.proofs.Boundary.{strategy-bad, strategy-none, strategy-good}
 use borrow.Author.Needs.{needs}
 use Rattle.union_ffi.proofs.nulls.union_strategy.Statement.{statement}

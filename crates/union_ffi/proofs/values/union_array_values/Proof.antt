@@ -1,7 +1,7 @@
 use mathlib.Core.Path.{sym, _∙_}
 use borrow.Author.Tests.{not-true, not-false}
-use Rattle.union_array.specs.Buffers.{buffersOf}
-use Rattle.union_ffi.proofs.Runs.{values-bad, values-good}
+use Rattle.array_columns.specs.Buffers.{buffersOf}
+use Rattle.union_ffi.proofs.Boundary.{values-bad, values-good}
 use borrow.Author.Needs.{needs}
 use Rattle.union_ffi.proofs.values.union_array_values.Statement.{statement}
 use Rattle.union_ffi.proofs.values.union_array_values.Tie as tie
@@ -18,8 +18,8 @@ returns c =
 array-from-requires : tie.Need-array-from-requires
 array-from-requires c κs = search needs
 
-read-run-requires : tie.Need-read-run-requires
-read-run-requires c κs = search needs
+values-requires : tie.Need-values-requires
+values-requires c κs = search needs
 
 same-length : tie.Need-same-length
 same-length c = search needs
@@ -32,10 +32,13 @@ same-length-3 c = search needs
 
 returns-2 : tie.Need-returns-2
 returns-2 c =
-    let p = c .before .before .before .before .before .before .before .before .before .before .before .before .before .before .before .before .before .args in
+    let v = c .before .before .before .before .before in
+    let u = v .before .before .before .before in
+    let i = u .before in
+    let p = i .before .before .before .before .before .before .before .args in
     let m = buffersOf (p .type-ids .now) (p .offsets .now) (p .values .now) (p .masks .now) (p .names .now) in
-    let u = c .before .before .before .before .before .before .before .before .before .array-from in
-    values-good (p .array) m (p .first) (p .n) (p .ids .now) (p .missing .now) (p .bits .now) (sym (c .before .before .before .before .before .before .before .before .before .before .before .is-array .ensures) ∙ not-false _ (c .before .before .before .before .before .before .before .before .before .before .if1 .left)) (u .result) (u .ensures) _ (c .before .before .before .before .before .read-run .ensures)
+    let good = sym (i .before .is-array .ensures) ∙ not-false _ (i .if1 .left) in
+    values-good (p .array) m (p .first) (p .n) (p .ids .now) (p .missing .now) (p .bits .now) good (u .array-from .result) (u .array-from .ensures) _ (v .values .ensures)
 
 pub union-array-values-spec : {M : Type 1} → statement M
 union-array-values-spec =
@@ -44,7 +47,7 @@ union-array-values-spec =
     is-array-requires
     returns
     array-from-requires
-    read-run-requires
+    values-requires
     same-length
     same-length-2
     same-length-3

@@ -1,0 +1,80 @@
+use mathlib.Core.Path.{_≡_, refl}
+use Prim.Native.Nat.{_-_, _≤_}
+use native.Mathlib.Omega.{arith}
+use borrow.Author.Needs.{needs}
+use lib.ListN.{length, length-set, getD, take, drop}
+use Rattle.array_columns.specs.Types.{noColumn}
+use Rattle.array_columns.proofs.Signed.{id-read}
+use Rattle.array_columns.specs.ById.{byId}
+use Rattle.array_columns.proofs.ById.{table-none, table-turn}
+use Rattle.array_columns.proofs.slots.places_by_id.Statement.{statement}
+use Rattle.array_columns.proofs.slots.places_by_id.Tie as tie
+
+abbrev Inv-loop : tie.InvT-loop
+Inv-loop fields columns table₀ j₀ table j = (j ≤ fields) × (length table ≡ 256) × (table ≡ byId 128 (λ k c. k) j (drop j (take fields columns)))
+
+abbrev μ-loop : tie.MeasureT-loop
+μ-loop fields columns table₀ j₀ table j = j
+
+loop-holds : tie.Need-loop-holds Inv-loop μ-loop
+loop-holds c =
+    let cs = c .args .t1 in
+    let full : length cs ≡ 128 = c .good .0 .1 .0 .1 in
+    (omega arith, refl, table-none 128 (λ k c. k) cs (c .args .fields) (omega arith))
+
+sub-j : tie.Need-sub-j Inv-loop μ-loop
+sub-j c = omega arith
+
+mul-c : tie.Need-mul-c Inv-loop μ-loop
+mul-c c = omega arith
+
+array-copy-out-c : tie.Need-array-copy-out-c Inv-loop μ-loop
+array-copy-out-c c = omega arith
+
+cast-table : tie.Need-cast-table Inv-loop μ-loop
+cast-table c = omega arith
+
+entry-of-requires : tie.Need-entry-of-requires Inv-loop μ-loop
+entry-of-requires c κs = search needs
+
+array-write-table : tie.Need-array-write-table Inv-loop μ-loop
+array-write-table c = omega arith
+
+loop-less : tie.Need-loop-less Inv-loop μ-loop
+loop-less c = omega arith
+
+loop-again : tie.Need-loop-again Inv-loop μ-loop
+loop-again c =
+    let l = c .before .before .before .before in
+    let st = l .before in
+    let cs = st .args .t1 in
+    let full : length cs ≡ 128 = st .good .0 .1 .0 .1 in
+    let e = id-read (getD cs (l .loop .j - 1) noColumn .id) (c .before .struct-told .given .1 .1 .1 .1 .1 .1 .0 .1) in (
+      omega arith,
+      simp length-set (l .loop .inv .1),
+      table-turn 128 (λ k c. k) cs (st .args .fields) (l .loop .j) (l .loop .table) (c .entry-of .result) (c .before .before .before .loop-test .taken) (l .loop .inv .0) (omega arith) (l .loop .inv .2)
+          (rw e at (c .entry-of .ensures .0)),
+    )
+
+returns : tie.Need-returns Inv-loop μ-loop
+returns c =
+    let l = c .before in
+    let e : l .loop .j ≡ 0 = omega arith in
+    rw e at (l .loop .inv .2)
+
+pub places-by-id-spec : {M : Type 1} → statement M
+places-by-id-spec =
+    tie.close
+    (tie.spec
+    Inv-loop
+    μ-loop
+    loop-holds
+    sub-j
+    mul-c
+    array-copy-out-c
+    cast-table
+    entry-of-requires
+    array-write-table
+    loop-less
+    loop-again
+    returns)

@@ -1,0 +1,3 @@
+-- The laws that the proofs of batch_description cite.
+pub mod ColumnOrder
+pub mod Describing

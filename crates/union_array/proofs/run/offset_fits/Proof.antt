@@ -1,0 +1,52 @@
+use mathlib.Core.Path.{sym, ap, _∙_}
+use mathlib.Core.Bool.{true}
+use Prim.Native.Nat.{_+_}
+use native.Mathlib.Omega.{arith}
+use lib.ListN.{getD}
+use lib.IntN.{ℤ, pos}
+use Rattle.union_array.specs.Types.{Layout, byLayout}
+use Rattle.union_array.specs.Questions.{within}
+use Rattle.array_columns.proofs.Signed.{offset-read}
+use borrow.Author.Needs.{needs}
+use Rattle.union_array.proofs.run.offset_fits.Statement.{statement}
+use Rattle.union_array.proofs.run.offset_fits.Tie as tie
+
+enum-told : tie.Need-enum-told
+enum-told c = search needs
+
+enum-told-2 : tie.Need-enum-told-2
+enum-told-2 c = search needs
+
+add-is-within : tie.Need-add-is-within
+add-is-within c = let h = c .before .before .pre (c .enum-told2 .given .1) in omega arith
+
+mul-is-within : tie.Need-mul-is-within
+mul-is-within c = let h = c .before .before .pre (c .enum-told2 .given .1) in omega arith
+
+shared-slice-copy-out-is-within : tie.Need-shared-slice-copy-out-is-within
+shared-slice-copy-out-is-within c = let h = c .before .before .pre (c .enum-told2 .given .1) in omega arith
+
+is-within-requires : tie.Need-is-within-requires
+is-within-requires c κs = search needs
+
+returns : tie.Need-returns
+returns c = search needs
+
+returns-2 : tie.Need-returns-2
+returns-2 c =
+    let a = c .before .before .before .before .args in
+    let z = getD (a .offsets .now) (a .start + a .i) (pos 0) in
+    c .is-within .ensures ∙ ap (λ (x : ℤ). within x (a .slots)) (offset-read z (c .before .is-within-arg .given)) ∙ ap (λ (l : Layout). byLayout l true (within z (a .slots))) (sym (c .before .before .enum-told2 .given .1))
+
+pub offset-fits-spec : {M : Type 1} → statement M
+offset-fits-spec =
+    tie.close
+    (tie.spec
+    enum-told
+    enum-told-2
+    add-is-within
+    mul-is-within
+    shared-slice-copy-out-is-within
+    is-within-requires
+    returns
+    returns-2)

@@ -1,0 +1,3 @@
+pub mod KindNameLaws
+pub mod PrintLaws
+pub mod ValueLaws
