@@ -74,6 +74,7 @@ pub fn not_finished(builder: CBuilder) -> CFinished
     }
 }
 
+// What a null mask answers, for C.
 pub fn nulls_to(r: LogicalNulls) -> CNulls
     ensures { λ c. ⌜ c ≡ nullsTo (numbersOf r) ⌝ }
 {
