@@ -2,6 +2,7 @@
 ghost use mathlib.Core.Path.{_≡_};
 ghost use mathlib.Core.Bool.{true};
 ghost use Prim.Native.Nat.{_*_, _≤_, _<_};
+ghost use Rattle.bitmap.specs.Bits.{nullCount};
 ghost use Rattle.array_columns.specs.Buffers.{onlyWords};
 ghost use Rattle.array_columns.specs.Slots.{present, presenceChunk, nullsIn};
 ghost use Rattle.array_columns.specs.Questions.{presenceIn};
@@ -33,7 +34,7 @@ pub fn presence_chunk(c: Column, values: &[u64], masks: &[u64], len: usize, k: u
 // How many slots of a child are null.
 pub fn null_count(c: Column, values: &[u64], masks: &[u64]) -> NullCount
     requires { ⌜ presenceIn (onlyWords (now values) (now masks)) c ≡ true ⌝ }
-    ensures { λ r. ⌜ r ≡ record { nulls = nullsIn c (onlyWords (now (values .entry)) (now (masks .entry))) } ⌝ }
+    ensures { λ r. ⌜ r ≡ nullCount (nullsIn c (onlyWords (now (values .entry)) (now (masks .entry)))) ⌝ }
 {
     if c.masked {
         return bitmap::null_count(masks, c.mask, c.bit as usize, c.slots as usize);

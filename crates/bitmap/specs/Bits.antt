@@ -6,6 +6,7 @@ use lib.Dec.{eqb, ltb}
 use lib.ListN.{getD, set}
 use lib.IntN.{ℤ, pos, negsuc}
 use Rattle.bitmap.specs.Lists.{table, retable}
+pub use Rattle.bitmap.specs.declared.NullCount.{NullCount}
 
 -- a bit as a number
 abbrev pub digit : Bool → ℕ
@@ -41,6 +42,10 @@ chunkOf words s len k = pack 64 (λ j. ltb (64 * k + j) len && bitAt words (s + 
 -- "For a mask, its null count is its length less its set bits": its clear bits, for a mask of len bits that starts at bit s
 unfoldable pub nullsOf : List ℕ → ℕ → ℕ → ℕ
 nullsOf words s len = count len (λ i. not (bitAt words (s + i)))
+
+-- a null count of n
+abbrev pub nullCount : ℕ → NullCount
+nullCount n = record { nulls = n }
 
 -- "Fully null: null count equals length, and length is not 0."
 unfoldable pub isFullyNull : ℕ → ℕ → Bool

@@ -6,7 +6,7 @@ ghost use lib.Dec.{T};
 ghost use lib.IntN.{pos};
 ghost use lib.ListN.{length, getD};
 ghost use lib.Signed.{nonNeg};
-ghost use Rattle.bitmap.specs.Bits.{pack, bitAt, setBit, wordsFor, chunkOf, nullsOf, isFullyNull, sameId, selectionsOf};
+ghost use Rattle.bitmap.specs.Bits.{pack, bitAt, setBit, wordsFor, chunkOf, nullsOf, nullCount, isFullyNull, sameId, selectionsOf};
 ghost use Rattle.bitmap.specs.Counting.{clearIn};
 
 // How many nulls were counted.
@@ -90,7 +90,7 @@ pub fn chunk(words: &[u64], word: usize, bit: usize, len: usize, k: usize) -> u6
 
 // The count before any word.
 pub fn empty_count() -> NullCount
-    ensures { λ r. ⌜ r ≡ record { nulls = 0 } ⌝ }
+    ensures { λ r. ⌜ r ≡ nullCount 0 ⌝ }
 {
     NullCount { nulls: 0 }
 }
@@ -98,18 +98,18 @@ pub fn empty_count() -> NullCount
 // The count and the clear bits among the n low bits of a word, whose later bits are 0.
 fn counted(c: NullCount, word: u64, n: usize) -> NullCount
     requires { ⌜ (n ≤ 64) × (word < 2 ^ n) × (c .nulls + n < 2 ^ 64) ⌝ }
-    ensures { λ r. ⌜ r ≡ record { nulls = c .nulls + clearIn word n } ⌝ }
+    ensures { λ r. ⌜ r ≡ nullCount (c .nulls + clearIn word n) ⌝ }
 {
     let set = u64::count_ones(word) as usize;
-    NullCount {
-        nulls: c.nulls + (n - set),
-    }
+    let mut after = c;
+    after.nulls = c.nulls + (n - set);
+    after
 }
 
 // How many bits of a mask of `len` bits are clear.
 pub fn null_count(words: &[u64], word: usize, bit: usize, len: usize) -> NullCount
     requires { ⌜ (64 * word + bit + len ≤ 64 * length (now words)) × (bit + len < 2 ^ 63) ⌝ }
-    ensures { λ r. ⌜ r ≡ record { nulls = nullsOf (now (words .entry)) (64 * word + bit) len } ⌝ }
+    ensures { λ r. ⌜ r ≡ nullCount (nullsOf (now (words .entry)) (64 * word + bit) len) ⌝ }
 {
     let mut c = empty_count();
     let mut k: usize = 0;

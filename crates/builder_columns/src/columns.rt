@@ -50,13 +50,10 @@ pub fn grown_column(c: BuilderColumn, null: bool) -> BuilderColumn
     requires { ⌜ c .slots < 65536 ⌝ }
     ensures { λ r. ⌜ r ≡ grownBy c null ⌝ }
 {
-    let kind = c.kind;
-    BuilderColumn {
-        slots: c.slots + 1,
-        size: c.size,
-        kind: kind,
-        masked: c.masked || null,
-    }
+    let mut after = c;
+    after.slots = c.slots + 1;
+    after.masked = c.masked || null;
+    after
 }
 
 // The column of an append before a row is added: in dense with its slot, which has no row.

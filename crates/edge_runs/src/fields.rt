@@ -1,15 +1,17 @@
 // An array's fields in list order: each one's id and name, and what `child` answers to the id.
 use crate::print;
 use array_columns::Column;
-use array_columns::kinds::kind_number;
 use program_kit::output;
 use program_kit::parts;
 use union_array::Child;
 use union_array::NamePlace;
 use union_array::UnionArray;
 
-// Where a child's name, values and mask are.
-fn places(c: Column) {
+// What `child` answers: its id and kind, and where its name, values and mask are.
+fn told(r: Child) {
+    let c = r.column;
+    let kind = c.kind;
+    print::told(b"; child", r.refusal, c.id, kind);
     print::count(b", name at", c.name);
     output::size(c.size as usize);
     print::count(b", values at", c.values);
@@ -21,16 +23,7 @@ fn places(c: Column) {
     output::end();
 }
 
-fn told(r: Child) {
-    let c = r.column;
-    let kind = c.kind;
-    print::small(b"; child", r.refusal);
-    output::text(b", id");
-    output::id(c.id);
-    print::small(b", kind", kind_number(kind));
-    places(c);
-}
-
+// A field: its id and name, and its child.
 fn field(
     a: UnionArray,
     c: Column,
@@ -50,6 +43,7 @@ fn field(
     told(a.child(id, ids, offsets, values, masks, names));
 }
 
+// A line for each field.
 pub fn lines(
     a: UnionArray,
     ids: &[i8],

@@ -21,7 +21,7 @@ mod tell;
 use program_kit::output;
 
 fn list(title: &[u8], list: usize, dense: bool) {
-    print::layout(dense);
+    output::layout(dense);
     output::text(title);
     output::end();
     run::run(list, dense);

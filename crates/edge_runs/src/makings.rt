@@ -1,7 +1,7 @@
 // Makings at the limits of slots and columns, and calls of a builder that are lent too little.
 use crate::print;
 use crate::read;
-use program_kit::makings::making;
+use program_kit::builders::make;
 use program_kit::output;
 use program_kit::parts;
 use union_builder::Made;
@@ -21,14 +21,6 @@ fn told(slots: usize, columns: usize, m: Made) {
     read::state(b);
 }
 
-// The length n, or one less if the kind of memory is the one that is short.
-fn less(n: usize, kind: usize, short: usize) -> usize {
-    if kind == short && 0 < n {
-        return n - 1;
-    }
-    n
-}
-
 // The numbers of a making of 64 slots and 2 columns, and of that builder's `finish_cloned` and `finish`.
 fn numbers(
     dense: bool,
@@ -39,7 +31,7 @@ fn numbers(
     masks: &[u64],
     names: &[u8],
 ) {
-    let m = making(dense, 64, 2, ids, offsets, values, masks, names);
+    let m = make(dense, 64, 2, ids, offsets, values, masks, names);
     print::small(b": making", m.refusal);
     let c = b.finish_cloned(ids, offsets, values, masks, names);
     print::small(b", finish_cloned", c.refusal);
@@ -57,43 +49,52 @@ fn short(
     masks: &[u64],
     names: &[u8],
 ) {
-    let m = making(dense, 64, 2, ids, offsets, values, masks, names);
-    let i = parts::first_ids(ids, less(64, 0, of));
-    let o = parts::first_offsets(offsets, less(64, 1, of));
-    let v = parts::first_words(values, less(128, 2, of));
-    let w = parts::first_words(masks, less(2, 3, of));
-    let n = parts::first_bytes(names, less(64, 4, of));
+    let m = make(dense, 64, 2, ids, offsets, values, masks, names);
+    let i = parts::first_ids(ids, parts::lent(64, of == 0, 64));
+    let o = parts::first_offsets(offsets, parts::lent(64, of == 1, 64));
+    let v = parts::first_words(values, parts::lent(128, of == 2, 128));
+    let w = parts::first_words(masks, parts::lent(2, of == 3, 2));
+    let n = parts::first_bytes(names, parts::lent(64, of == 4, 64));
     print::count(b" short of", of);
     numbers(dense, m.builder, i, o, v, w, n);
 }
 
-fn limits(dense: bool, ids: &[i8], offsets: &[i32], values: &[u64], masks: &[u64], names: &[u8]) {
-    for i in 0..10usize {
-        let slots = SLOTS[i];
-        let columns = COLUMNS[i];
-        told(
-            slots,
-            columns,
-            making(dense, slots, columns, ids, offsets, values, masks, names),
-        );
+// Line i: the makings at the limits, then the calls that are lent too little.
+fn line(
+    dense: bool,
+    i: usize,
+    ids: &[i8],
+    offsets: &[i32],
+    values: &[u64],
+    masks: &[u64],
+    names: &[u8],
+) {
+    if 10 <= i {
+        short(dense, i - 10, ids, offsets, values, masks, names);
+        return;
+    }
+    let slots = SLOTS[i];
+    let columns = COLUMNS[i];
+    let m = make(dense, slots, columns, ids, offsets, values, masks, names);
+    told(slots, columns, m);
+}
+
+// Every line of a layout.
+fn each(dense: bool, ids: &[i8], offsets: &[i32], values: &[u64], masks: &[u64], names: &[u8]) {
+    for i in 0..16usize {
+        line(dense, i, ids, offsets, values, masks, names);
     }
 }
 
-fn shorts(dense: bool, ids: &[i8], offsets: &[i32], values: &[u64], masks: &[u64], names: &[u8]) {
-    for of in 0..6usize {
-        short(dense, of, ids, offsets, values, masks, names);
-    }
-}
-
+// The lines of a layout, over memory for 1024 values in all.
 pub fn lines(dense: bool) {
     let ids = [0i8; 1024];
     let offsets = [0i32; 1024];
     let values = [0u64; 1024];
     let masks = [0u64; 128];
     let names = [0u8; 4096];
-    print::layout(dense);
+    output::layout(dense);
     output::text(b", makings");
     output::end();
-    limits(dense, &ids, &offsets, &values, &masks, &names);
-    shorts(dense, &ids, &offsets, &values, &masks, &names);
+    each(dense, &ids, &offsets, &values, &masks, &names);
 }

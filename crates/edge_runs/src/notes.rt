@@ -7,6 +7,7 @@ use program_kit::output;
 use program_kit::parts;
 use union_builder::Appended;
 
+// Notes an append, if there is room.
 pub fn note(told: &mut [u64], i: usize, r: Appended) {
     let b = r.builder;
     let l = b.len();
@@ -15,12 +16,14 @@ pub fn note(told: &mut [u64], i: usize, r: Appended) {
     }
 }
 
+// The number and the length that a note tells.
 fn told(note: u64) {
     output::number(note / 65536);
     output::text(b", length");
     output::number(note % 65536);
 }
 
+// The value that an append is given, or that it is missing.
 fn value(e: Entry) {
     if e.missing {
         output::text(b", missing:");
@@ -44,8 +47,12 @@ fn line(e: Entry, note: u64) {
     output::end();
 }
 
-// Of a round, the refused appends only.
-fn refusal(i: usize, note: u64) {
+// A line for an append; of a round, for the refused ones only.
+fn appended(list: usize, i: usize, note: u64) {
+    if !lists::is_round(list) {
+        line(lists::entry_at(list, i), note);
+        return;
+    }
     if note < 65536 {
         return;
     }
@@ -53,14 +60,6 @@ fn refusal(i: usize, note: u64) {
     output::text(b":");
     told(note);
     output::end();
-}
-
-fn appended(list: usize, i: usize, note: u64) {
-    if lists::is_round(list) {
-        refusal(i, note);
-        return;
-    }
-    line(lists::entry_at(list, i), note);
 }
 
 // Lines for the appends of a list.

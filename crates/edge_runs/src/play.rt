@@ -3,8 +3,10 @@ use crate::lend;
 use crate::lists;
 use crate::lists::Entry;
 use crate::notes;
-use program_kit::makings::making;
+use program_kit::builders::append;
+use program_kit::builders::make;
 use program_kit::parts;
+use union_array::UnionArray;
 use union_array::slices;
 use union_builder::Appended;
 use union_builder::Finished;
@@ -25,41 +27,39 @@ fn put(
     let bytes = n.bytes;
     let kind = e.kind;
     let name = parts::first_bytes(&bytes, n.size);
-    if e.missing {
-        return b.append_null(name, kind, ids, offsets, values, masks, names);
-    }
-    if lent {
+    if lent && !e.missing {
         return lend::append_lent(b, name, kind, e.bits, ids, offsets, values, masks, names);
     }
-    b.append(name, kind, e.bits, ids, offsets, values, masks, names)
+    append(
+        b,
+        name,
+        kind,
+        e.missing,
+        e.bits,
+        ids,
+        offsets,
+        values,
+        masks,
+        names,
+    )
 }
 
-// The builder with what it describes now, or as they were.
+// What the builder describes now, or what it described before.
 fn described(
-    s: Finished,
+    before: UnionArray,
+    b: UnionBuilder,
     now: bool,
     ids: &[i8],
     offsets: &[i32],
     values: &[u64],
     masks: &[u64],
     names: &[u8],
-) -> Finished {
+) -> UnionArray {
     if now {
-        let b = s.builder;
-        return b.finish_cloned(ids, offsets, values, masks, names);
+        let f = b.finish_cloned(ids, offsets, values, masks, names);
+        return f.array;
     }
-    s
-}
-
-// The builder of an append, and what was described before.
-fn after(s: Finished, r: Appended) -> Finished {
-    let b = r.builder;
-    let a = s.array;
-    Finished {
-        builder: b,
-        array: a,
-        refusal: 0,
-    }
+    before
 }
 
 // The builder of a list. That of list 7 has one slot more than is lent, that of list 8 no column.
@@ -73,7 +73,7 @@ fn made(
     names: &[u8],
 ) -> UnionBuilder {
     let s = lists::sizes_of(list);
-    let m = making(
+    let m = make(
         dense,
         s.slots,
         s.columns,
@@ -106,18 +106,18 @@ pub fn play(
     names: &mut [u8],
 ) -> Finished {
     let n = lists::entries_of(list);
-    let b = made(list, dense, ids, offsets, values, masks, names);
-    let mut s = Finished {
-        builder: b,
-        array: slices::no_array(),
-        refusal: 0,
-    };
+    let mut b = made(list, dense, ids, offsets, values, masks, names);
+    let mut half = slices::no_array();
     for i in 0..n {
-        s = described(s, i == n / 2, ids, offsets, values, masks, names);
+        half = described(half, b, i == n / 2, ids, offsets, values, masks, names);
         let e = lists::entry_at(list, i);
-        let r = put(s.builder, lent, e, ids, offsets, values, masks, names);
-        s = after(s, r);
+        let r = put(b, lent, e, ids, offsets, values, masks, names);
+        b = r.builder;
         notes::note(told, i, r);
     }
-    s
+    Finished {
+        builder: b,
+        array: half,
+        refusal: 0,
+    }
 }

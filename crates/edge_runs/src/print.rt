@@ -1,12 +1,11 @@
 // Labels on standard output, and what they tell.
+use array_columns::Kind;
+use array_columns::kinds::kind_number;
 use program_kit::output;
 
+// Yes or no after a space.
 pub fn flag(b: bool) {
-    if b {
-        output::text(b" yes");
-    } else {
-        output::text(b" no");
-    }
+    output::either(b, b" yes", b" no");
 }
 
 // A label, and whether it holds.
@@ -33,13 +32,12 @@ pub fn bytes(s: &[u8]) {
     output::bytes(s, true);
 }
 
-// The layout's name.
-pub fn layout(dense: bool) {
-    if dense {
-        output::text(b"dense");
-    } else {
-        output::text(b"sparse");
-    }
+// What tells of a child or a value first: the call's number, the id and the kind.
+pub fn told(call: &[u8], refusal: u8, id: i8, kind: Kind) {
+    small(call, refusal);
+    output::text(b", id");
+    output::id(id);
+    small(b", kind", kind_number(kind));
 }
 
 // A call's number on a line.

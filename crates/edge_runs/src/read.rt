@@ -1,34 +1,23 @@
 // What a builder finishes, read back: fields, slots, type ids.
 use crate::fields;
 use crate::print;
-use crate::same;
 use crate::shown;
 use crate::slots;
+use array_columns::questions::is_dense;
 use program_kit::output;
 use program_kit::parts;
-use union_array::UnionArray;
 use union_builder::UnionBuilder;
 
 // A builder's layout, slots and columns, and those in use.
 pub fn state(b: UnionBuilder) {
     let l = b.layout;
     output::text(b", a ");
-    print::layout(same::is_dense(l));
+    output::layout(is_dense(l));
     output::text(b" builder");
     output::size(b.capacity);
     output::size(b.limit);
     output::size(b.len);
     output::size(b.count);
-    output::end();
-}
-
-fn flags(a: UnionArray, ids: &[i8], offsets: &[i32], values: &[u64], masks: &[u64], names: &[u8]) {
-    let d = a.is_dense(ids, offsets, values, masks, names);
-    let n = a.is_nullable(ids, offsets, values, masks, names);
-    print::small(b"  is_dense", d.refusal);
-    print::flag(d.holds);
-    print::small(b", is_nullable", n.refusal);
-    print::flag(n.holds);
     output::end();
 }
 
@@ -47,6 +36,7 @@ pub fn memory(ids: &[i8], offsets: &[i32], values: &[u64], masks: &[u64], names:
     output::end();
 }
 
+// What `finish` answers: the builder after it, and the array.
 pub fn finished(
     b: UnionBuilder,
     ids: &[i8],
@@ -63,7 +53,13 @@ pub fn finished(
     print::count(b", slots", a.count);
     print::count(b", fields", a.fields);
     state(after);
-    flags(a, ids, offsets, values, masks, names);
+    let d = a.is_dense(ids, offsets, values, masks, names);
+    print::small(b"  is_dense", d.refusal);
+    print::flag(d.holds);
+    let n = a.is_nullable(ids, offsets, values, masks, names);
+    print::small(b", is_nullable", n.refusal);
+    print::flag(n.holds);
+    output::end();
     fields::lines(a, ids, offsets, values, masks, names);
     slots::lines(a, l.len, ids, offsets, values, masks, names);
     shown::lines(a, l.len, ids, offsets, values, masks, names);

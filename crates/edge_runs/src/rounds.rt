@@ -5,7 +5,7 @@ use crate::print;
 use crate::tell;
 use program_kit::output;
 use union_array::UnionArray;
-use union_builder::UnionBuilder;
+use union_builder::Finished;
 
 // The fields, how many slots tell entries `first` to `end` - 1, and every null mask.
 fn read_back(
@@ -23,13 +23,12 @@ fn read_back(
     let count = tell::count(a, first, end, ids, offsets, values, masks, names);
     print::count(b", slots that tell their entry", count);
     output::end();
-    null_masks::settings(a, ids, offsets, values, masks, names);
-    null_masks::strategies(a, ids, offsets, values, masks, names);
+    null_masks::lines(a, ids, offsets, values, masks, names);
 }
 
-// What a builder of n slots describes, and its slice from slot 1 on.
-pub fn described(
-    b: UnionBuilder,
+// What a builder of n slots describes, its slice from slot 1 on, and what it described half way.
+pub fn lines(
+    p: Finished,
     n: usize,
     ids: &[i8],
     offsets: &[i32],
@@ -40,6 +39,7 @@ pub fn described(
     if n < 1 {
         return;
     }
+    let b = p.builder;
     let f = b.finish_cloned(ids, offsets, values, masks, names);
     let a = f.array;
     print::answer(b" finish_cloned:", f.refusal);
@@ -48,17 +48,8 @@ pub fn described(
     let part = s.array;
     print::answer(b" slice from slot 1:", s.refusal);
     read_back(part, 1, n, ids, offsets, values, masks, names);
-}
-
-pub fn snapshot(
-    a: UnionArray,
-    ids: &[i8],
-    offsets: &[i32],
-    values: &[u64],
-    masks: &[u64],
-    names: &[u8],
-) {
-    print::count(b" snapshot at slot", a.count);
+    let half = p.array;
+    print::count(b" snapshot at slot", half.count);
     output::end();
-    read_back(a, 0, a.count, ids, offsets, values, masks, names);
+    read_back(half, 0, half.count, ids, offsets, values, masks, names);
 }

@@ -8,31 +8,7 @@ use crate::refusals;
 use crate::rounds;
 use union_builder::Finished;
 
-// What a list leaves. Of a list of a few slots and columns, the memory too.
-fn read_back(
-    list: usize,
-    p: Finished,
-    ids: &[i8],
-    offsets: &[i32],
-    values: &[u64],
-    masks: &[u64],
-    names: &[u8],
-) {
-    let b = p.builder;
-    if lists::is_round(list) {
-        rounds::described(b, list, ids, offsets, values, masks, names);
-        rounds::snapshot(p.array, ids, offsets, values, masks, names);
-        return;
-    }
-    if list < 5 {
-        read::memory(ids, offsets, values, masks, names);
-    }
-    read::finished(b, ids, offsets, values, masks, names);
-    if list == 1 || list == 3 {
-        refusals::lines(b, ids, offsets, values, masks, names);
-    }
-}
-
+// What a list notes and leaves. Of a list of a few slots and columns, the memory too.
 fn lines(
     list: usize,
     dense: bool,
@@ -47,7 +23,17 @@ fn lines(
     let b = p.builder;
     notes::lines(list, told);
     again::compare(list, dense, b, told, ids, offsets, values, masks, names);
-    read_back(list, p, ids, offsets, values, masks, names);
+    if lists::is_round(list) {
+        rounds::lines(p, list, ids, offsets, values, masks, names);
+        return;
+    }
+    if list < 5 {
+        read::memory(ids, offsets, values, masks, names);
+    }
+    read::finished(b, ids, offsets, values, masks, names);
+    if list == 1 || list == 3 {
+        refusals::lines(b, ids, offsets, values, masks, names);
+    }
 }
 
 // Plays a list over memory that holds ones at first.

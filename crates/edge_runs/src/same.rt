@@ -1,6 +1,6 @@
 // Whether two builders, or two lists, are the same.
-use array_columns::Layout;
 use array_columns::kinds::same_kind;
+use array_columns::questions::is_dense;
 use builder_columns::BuilderColumn;
 use union_builder::UnionBuilder;
 use union_names::names;
@@ -43,13 +43,6 @@ pub fn words(a: &[u64], b: &[u64]) -> bool {
 
 pub fn bytes(a: &[u8], b: &[u8]) -> bool {
     names::same_name(a, 0, a.len(), b)
-}
-
-pub fn is_dense(l: Layout) -> bool {
-    match l {
-        Layout::Sparse => false,
-        Layout::Dense => true,
-    }
 }
 
 fn column(a: BuilderColumn, b: BuilderColumn) -> bool {

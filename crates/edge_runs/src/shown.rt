@@ -4,6 +4,7 @@ use program_kit::output;
 use program_kit::parts;
 use union_array::UnionArray;
 
+// The number, and the type ids that are shown.
 fn line(a: UnionArray, ids: &[i8], offsets: &[i32], values: &[u64], masks: &[u64], names: &[u8]) {
     let mut refusal: u8 = 255;
     let part = a.type_ids(&mut refusal, ids, offsets, values, masks, names);
@@ -32,13 +33,7 @@ pub fn lines(
     let part = s.array;
     output::text(b"  type_ids from slot 1 on");
     line(part, ids, offsets, values, masks, names);
+    let fewer = parts::first_ids(ids, n - 1);
     output::text(b"  type_ids, one too few lent");
-    line(
-        a,
-        parts::first_ids(ids, n - 1),
-        offsets,
-        values,
-        masks,
-        names,
-    );
+    line(a, fewer, offsets, values, masks, names);
 }

@@ -1,33 +1,22 @@
 // An array's slots: what `type_id`, `value_offset` and `value` answer.
 use crate::print;
 use array_columns::Value;
-use array_columns::kinds::kind_number;
 use program_kit::output;
 use union_array::UnionArray;
 
-// The bits, or missing, and the name's length and its 32 bytes.
-fn bits(v: Value) {
+// What `value` answers: its id and kind, the bits, or missing, and the name's length and its 32 bytes.
+fn told(v: Value) {
+    let kind = v.kind;
     let name = v.name;
-    if v.missing {
-        output::text(b", missing,");
-    } else {
-        output::text(b", bits");
-    }
+    print::told(b", value", v.refusal, v.id, kind);
+    output::either(v.missing, b", missing,", b", bits");
     output::word(v.bits);
     print::small(b", name", v.size);
     print::bytes(&name);
     output::end();
 }
 
-fn told(v: Value) {
-    let kind = v.kind;
-    print::small(b", value", v.refusal);
-    output::text(b", id");
-    output::id(v.id);
-    print::small(b", kind", kind_number(kind));
-    bits(v);
-}
-
+// A line for a slot.
 fn slot(
     a: UnionArray,
     i: usize,

@@ -1,22 +1,15 @@
 // Whether slots tell the entries of a round.
 use crate::lists;
 use crate::lists::Entry;
+use crate::same;
 use array_columns::Value;
 use array_columns::kinds::same_kind;
+use program_kit::parts;
 use union_array::UnionArray;
 
 // Whether a value's 32 name bytes are a name's, with zeros after it.
 fn is_name(a: [u8; 32], b: [u8; 33]) -> bool {
-    for j in 0..32usize {
-        if a[j] != b[j] {
-            return false;
-        }
-    }
-    true
-}
-
-fn is_size(a: u8, b: usize) -> bool {
-    a as usize == b
+    same::bytes(&a, parts::first_bytes(&b, 32))
 }
 
 // Whether an answer is an entry of the column with an id.
@@ -36,7 +29,7 @@ fn is_entry(v: Value, e: Entry, id: i8) -> bool {
     if !same_kind(k, l) {
         return false;
     }
-    if !is_size(v.size, n.size) {
+    if v.size as usize != n.size {
         return false;
     }
     if v.missing != e.missing {

@@ -27,14 +27,24 @@ use Rattle.union_array.proofs.Accepted.{all-accepted}
 use Rattle.null_strategy.specs.Setting.{settingNumber, settingOf}
 use Rattle.null_strategy.specs.declared.Route.{Route}
 use Rattle.null_strategy.specs.declared.Route.the-variants.{Absent, OneField, AllNull, Gather as routeGather, SkipOne as routeSkipOne, SkipWithoutNulls as routeSkipWithout, SkipFullyNull as routeSkipFully}
-use Rattle.null_strategy.specs.Route.{isAbsent, isAllNull, sparseRoute, withNulls, fullyNulls, routeOf}
+use Rattle.null_strategy.specs.Route.{isAbsent, isAllNull, presentOn, sparseRoute, withNulls, fullyNulls, routeOf}
 use Rattle.null_strategy.specs.declared.Fields.{Fields}
 use Rattle.null_strategy.specs.Fields.{fieldsOf}
 use Rattle.null_strategy.proofs.FieldStates.{some-words, full-words}
 use Rattle.null_strategy.proofs.Choosing.{sparse-is}
 use Rattle.logical_nulls.specs.Mask.{LogicalNulls, SparseStrategy, Gather, SkipOne, SkipWithoutNulls, SkipFullyNull, NullsAnswer, Masked, numbersOf, masked, withWords, refusedWith, notMasked, maskedBy, answerOn, question13, question14, applies, mayRun, logicalNullsOf, strategyRoute, strategyOf}
-use Rattle.logical_nulls.specs.Ready.{reads, Ready}
+use Rattle.logical_nulls.specs.Ready.{reads, Ready, noMask}
 use Rattle.logical_nulls.proofs.Masks.{null-same}
+
+-- ---- the answer
+
+module _ (route : Route) (nulls : ℕ) where
+  pub answer-yes : (b : Bool) → b ≡ presentOn route nulls → b ≡ true
+      → numbersOf (record { nulls = nulls; refusal = 0; route = route; present = true }) ≡ answerOn route nulls
+  answer-yes b e t = rw (sym e ∙ t)
+
+  pub answer-no : (b : Bool) → b ≡ presentOn route nulls → b ≡ false → numbersOf (noMask 0 route) ≡ answerOn route nulls
+  answer-no b e t = rw (sym e ∙ t)
 
 -- ---- the refusals
 

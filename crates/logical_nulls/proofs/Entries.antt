@@ -1,22 +1,20 @@
--- The table of Gather: one more field stored, and the entry of an id. Assumes nothing.
+-- The table of Gather: the entry of an id, and that its bit is the null mask's. Assumes nothing.
 use mathlib.Core.Path.{_≡_, refl, sym, ap, ap₂, _∙_, subst}
-use mathlib.Core.Bool.{Bool, true, false, cond, not, _&&_, false≢true}
-use mathlib.Core.List.{List, [], _∷_, _++_}
+use mathlib.Core.Bool.{Bool, true, false, cond, not, false≢true}
+use mathlib.Core.List.{List, [], _∷_}
 use mathlib.Core.Option.{Option, none, some}
-use Prim.Native.Nat.{ℕ, zero, suc, _+_, _-_, _*_, _≤_, _<_, min}
-use native.Mathlib.Numerals.{add-one}
+use Prim.Native.Nat.{ℕ, zero, suc, _<_}
 use native.Mathlib.Omega.{arith}
 use native.Mathlib.Nat.{not-suc-le-zero, le-of-suc-le-suc}
-use borrow.Author.Tests.{ltb-true, not-true}
-use lib.Dec.{T, ltb}
-use lib.ListN.{getD, set, take, length, replicate, length-set, length-replicate}
-use lib.Seq.{take-suc, getD-set-same, getD-set-other}
+use borrow.Author.Tests.{not-true}
+use lib.Dec.{T}
+use lib.ListN.{getD, set, length, replicate, length-set, length-replicate}
+use lib.Seq.{getD-set-same, getD-set-other}
 use lib.IntN.{ℤ, pos, negsuc, natAbs}
 use lib.Signed.{nonNeg}
-use Rattle.bitmap.specs.Bits.{pack, sameId}
+use Rattle.bitmap.specs.Bits.{sameId}
 use Rattle.bitmap.proofs.Ids.{sameId-eq, sameId-ne}
 use Rattle.bitmap.proofs.Tables.{both}
-use Rattle.bitmap.proofs.Words.{pack-ext}
 use Rattle.array_columns.specs.declared.Column.{Column}
 use Rattle.array_columns.specs.declared.Layout.{Layout}
 use Rattle.union_array.specs.declared.UnionArray.{UnionArray}
@@ -30,42 +28,11 @@ use Rattle.union_array.proofs.Accepted.{ColumnAccepted, AllAccepted, child-acce
 use Rattle.array_columns.proofs.Present.{no-mask, presence-accepted, no-bits}
 use Rattle.null_strategy.specs.Fields.{hasNulls, stateOf}
 use Rattle.null_strategy.proofs.FieldStates.{all-present}
-use Rattle.logical_nulls.specs.Steps.{WithNulls, wordOf, takenOf, idAt}
-use Rattle.logical_nulls.proofs.Selecting.{span-cut}
+use Rattle.mask_words.specs.declared.Taken.the-variants.{WithNulls}
+use Rattle.mask_words.specs.Steps.{takenOf}
+use Rattle.mask_words.proofs.ValidIds.{valid-plain}
+use Rattle.gather_table.specs.Table.{withoutNulls, stored, tableOf, tableEntry, gatheredAt, Gathers}
 use Rattle.logical_nulls.proofs.Strategies.{its-child, its-slot, its-bit}
-use Rattle.logical_nulls.specs.Table.{withoutNulls, stored, tableOf, tableEntry, gatheredAt, Gathers}
-
--- ---- one more column
-
-stored-snoc : (t : List Column) (l : List Column) (c : Column) → stored t (l ++ c ∷ []) ≡ set (stored t l) (natAbs (c .id)) c
-unfolding stored
-stored-snoc t [] c = refl
-stored-snoc t (x ∷ l) c = stored-snoc (set t (natAbs (x .id)) x) l c
-
-pub table-none : (l : List Column) → replicate 256 withoutNulls ≡ tableOf (take 0 l)
-unfolding tableOf stored
-table-none l = refl
-
-pub table-more : (l : List Column) (q : ℕ) → q < length l → set (tableOf (take q l)) (natAbs (getD l q noColumn .id)) (getD l q noColumn) ≡ tableOf (take (q + 1) l)
-unfolding tableOf
-table-more l q h =
-    sym (ap (λ (n : ℕ). tableOf (take n l)) (add-one q) ∙ ap tableOf (take-suc l q noColumn h) ∙ stored-snoc (replicate 256 withoutNulls) (take q l) (getD l q noColumn))
-
--- ---- a word of looked up bits
-
-module _ (t : List Column) (words : Buffers) (ids : List ℤ) (s : ℕ) (slot : ℕ → ℕ) (k : ℕ) where
-  -- bit j of word k
-  abbrev pub lookedUp : ℕ → Bool
-  lookedUp j = gatheredAt t words ids s slot (64 * k + j)
-
-  pub gathered : (n len : ℕ) → n ≡ min 64 (len - 64 * k) → pack 64 (λ i. ltb i n && lookedUp i) ≡ wordOf len (gatheredAt t words ids s slot) k
-  unfolding wordOf
-  gathered n len en = pack-ext 64 _ _ (λ j h. ap (λ (b : Bool). b && lookedUp j) (span-cut n len k en j h))
-
-  -- by an id z and a child slot p, as they were read
-  pub looked-up : (j p : ℕ) (z : ℤ) (b : Bool) → z ≡ idAt ids s (64 * k + j) → p ≡ slot (64 * k + j) → b ≡ present (getD t (natAbs z) noColumn) words p → lookedUp j ≡ b
-  unfolding gatheredAt
-  looked-up j p z b e f r = sym (r ∙ ap₂ (λ (y : ℤ) (q : ℕ). present (getD t (natAbs y) noColumn) words q) e f)
 
 -- ---- the entry of an id
 
@@ -73,15 +40,6 @@ abs-inj : (a b : ℤ) → T (nonNeg a) → T (nonNeg b) → natAbs a ≡ natAbs 
 abs-inj (pos a) (pos b) p q e = ap pos e
 abs-inj (pos a) (negsuc b) p q e = absurd q
 abs-inj (negsuc a) b p q e = absurd p
-
--- a valid id is not negative, and below 128
-pub valid-plain : (z : ℤ) → validId z ≡ true → T (nonNeg z) × (natAbs z < 128)
-valid-plain (pos n) e = (tt, ltb-true n 128 e)
-valid-plain (negsuc n) e = absurd (false≢true e)
-
-pub plain-is : (z : ℤ) → T (nonNeg z) → z ≡ pos (natAbs z)
-plain-is (pos n) h = refl
-plain-is (negsuc n) h = absurd h
 
 -- a column is stored if it has a null
 abbrev store : Bool → List Column → ℕ → Column → List Column

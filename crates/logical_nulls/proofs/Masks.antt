@@ -27,15 +27,18 @@ use Rattle.null_strategy.specs.declared.Fields.{Fields}
 use Rattle.null_strategy.specs.declared.State.{State}
 use Rattle.null_strategy.specs.Fields.{stateOf, fieldState, inList}
 use Rattle.null_strategy.proofs.FieldStates.{fields-in, many-all, none-present, is-full, state-words, full-words}
+use Rattle.mask_words.specs.declared.Taken.{Taken}
+use Rattle.mask_words.specs.declared.Taken.the-variants.{All, WithNulls, NotFull}
+use Rattle.mask_words.specs.declared.TakenFields.{TakenFields}
+use Rattle.mask_words.specs.Steps.{any, takes, takenOf, idAt, selectedAt, presentAt, skipOneAt, skipWithoutAt, skipFullyAt, stepAt, wordsOf, inTaken, takenFieldsOf, ValidIds, TakenNamed, TakenReady, FieldsReady}
+use Rattle.mask_words.proofs.Selecting.{any-ext}
+use Rattle.mask_words.proofs.TakenUp.{in-taken, taken-named, words-need}
+use Rattle.mask_words.proofs.Writing.{words-ext, words-written}
+use Rattle.gather_table.specs.Table.{tableOf, childSlot, gatheredAt, Gathers}
 use Rattle.logical_nulls.specs.Mask.{LogicalNulls, NullsAnswer, numbersOf, masked, withWords, maskedBy, answerOn}
-use Rattle.logical_nulls.specs.Steps.{Taken, All, WithNulls, NotFull, TakenFields, any, takes, takenOf, idAt, selectedAt, presentAt, skipOneAt, skipWithoutAt, skipFullyAt, stepAt, wordsOf, inTaken, takenFieldsOf, ValidIds, TakenNamed, TakenReady, FieldsReady}
-use Rattle.logical_nulls.specs.Table.{tableOf, childSlot, gatheredAt, Gathers}
 use Rattle.logical_nulls.specs.Ready.{reads, Ready}
-use Rattle.logical_nulls.proofs.Selecting.{any-ext}
 use Rattle.logical_nulls.proofs.Strategies.{its-child, its-slot, its-bit, step-is}
 use Rattle.logical_nulls.proofs.Entries.{id-ok, gathered-is, gathers}
-use Rattle.logical_nulls.proofs.TakenUp.{in-taken, taken-named, words-need}
-use Rattle.logical_nulls.proofs.Writing.{words-ext, words-written}
 
 pub not-sparse : (l : Layout) (b : Bool) → byLayout l b false ≡ true → (l ≡ Sparse)
 not-sparse Sparse b e = refl

@@ -24,8 +24,10 @@ use Rattle.union_array.specs.Questions.{distinct}
 use Rattle.union_array.proofs.Accepted.{AllAccepted, child-is, slot-in}
 use Rattle.null_strategy.specs.Fields.{hasNulls, onlyNulls, stateOf}
 use Rattle.null_strategy.proofs.FieldStates.{all-present, none-present}
-use Rattle.logical_nulls.specs.Steps.{Taken, All, WithNulls, NotFull, any, takes, takenOf, skipOneAt, skipWithoutAt, skipFullyAt, stepAt}
-use Rattle.logical_nulls.proofs.Selecting.{any-ext, any-less}
+use Rattle.mask_words.specs.declared.Taken.{Taken}
+use Rattle.mask_words.specs.declared.Taken.the-variants.{All, WithNulls, NotFull}
+use Rattle.mask_words.specs.Steps.{any, takes, takenOf, skipOneAt, skipWithoutAt, skipFullyAt, stepAt}
+use Rattle.mask_words.proofs.Selecting.{any-ext, any-less}
 
 not-yes : (b : Bool) → not b ≡ true → b ≡ false
 not-yes true e = absurd (false≢true e)

@@ -1,99 +1,22 @@
 // The words of the null mask, by route.
 ghost use mathlib.Core.Path.{_≡_};
 ghost use mathlib.Core.Bool.{false};
-ghost use Prim.Native.Nat.{_^_, _<_, _≤_};
-ghost use lib.ListN.{length};
-ghost use Rattle.bitmap.specs.Bits.{wordsFor, written};
+ghost use Rattle.bitmap.specs.Bits.{written};
 ghost use Rattle.union_array.specs.Types.{byLayout};
-ghost use Rattle.array_columns.specs.Buffers.{onlyWords};
 ghost use Rattle.union_array.specs.Slots.{slotNull};
 ghost use Rattle.null_strategy.specs.Route.{isAbsent, isStepped};
 ghost use Rattle.logical_nulls.specs.Mask.{withWords, maskedBy};
-ghost use Rattle.logical_nulls.specs.Steps.{All, inTaken, stepWord, wordsOf, stepAt, RunReady, TakenReady};
 ghost use Rattle.logical_nulls.specs.Ready.{reads, Ready};
 use crate::LogicalNulls;
-use crate::Taken;
-use crate::TakenFields;
 use crate::answers;
-use crate::steps;
-use crate::table;
-use crate::taking;
-use array_columns::Column;
 use array_columns::Layout;
-use array_columns::presence;
+use gather_table::table;
+use mask_words::Taken;
+use mask_words::taking;
+use mask_words::words;
 use null_strategy::Fields;
 use null_strategy::Route;
 use union_array::UnionArray;
-
-// A word by the step of a strategy.
-fn step(
-    over: Taken,
-    fields: &[u8; 128],
-    chunks: &[u64; 128],
-    count: usize,
-    ids: &[i8],
-    start: usize,
-    n: usize,
-) -> u64
-    requires { ⌜ RunReady (now fields) count (now ids) start n × ((over ≡ All) → 1 ≤ count) ⌝ }
-    ensures { λ r. ⌜ r ≡ stepWord over (now (fields .entry)) (now (chunks .entry)) count (now (ids .entry)) start n ⌝ }
-{
-    match over {
-        Taken::All => steps::skip_one(fields, chunks, count, ids, start, n),
-        Taken::WithNulls => steps::skip_without_nulls(fields, chunks, count, ids, start, n),
-        Taken::NotFull => steps::skip_fully_null(fields, chunks, count, ids, start, n),
-    }
-}
-
-// The mask by the step of a strategy, of the fields that it takes up. Later words keep what they have. The loop over the fields
-// stands here, since a call for each word would copy them.
-fn write_words(
-    over: Taken,
-    columns: [Column; 128],
-    t: TakenFields,
-    values: &[u64],
-    masks: &[u64],
-    ids: &[i8],
-    start: usize,
-    len: usize,
-    out: &mut [u64],
-)
-    requires { ⌜ (len < 2 ^ 63) × (wordsFor len ≤ length (now out)) ⌝ }
-    requires { ⌜ TakenReady over columns t (onlyWords (now values) (now masks)) (now ids) start len ⌝ }
-    ensures { λ _. ⌜ now (out .exit) ≡ wordsOf len (stepAt over (inTaken columns t) (onlyWords (now (values .entry)) (now (masks .entry))) (now (ids .entry)) start) (now (out .entry)) ⌝ }
-{
-    let words = bitmap::words_for(len);
-    let used = t.count;
-    let fields = t.ids;
-    let mut chunks = [0u64; 128];
-    let mut k: usize = 0;
-    while k < words {
-        let mut q: usize = 0;
-        while q < used {
-            let place = t.places[q] as usize;
-            let c = columns[place];
-            chunks[q] = presence::presence_chunk(c, values, masks, len, k);
-            q += 1;
-        }
-        let done = 64 * k;
-        let n = bitmap::span(len - done);
-        out[k] = step(over, &fields, &chunks, used, ids, start + done, n);
-        k += 1;
-    }
-}
-
-// A mask of nulls alone. Later words keep what they have.
-fn write_nulls(len: usize, out: &mut [u64])
-    requires { ⌜ (len < 2 ^ 63) × (wordsFor len ≤ length (now out)) ⌝ }
-    ensures { λ _. ⌜ now (out .exit) ≡ wordsOf len (λ i. false) (now (out .entry)) ⌝ }
-{
-    let n = bitmap::words_for(len);
-    let mut k: usize = 0;
-    while k < n {
-        out[k] = 0;
-        k += 1;
-    }
-}
 
 // Whether a route's words are made by a step.
 fn by_step(layout: Layout, route: Route) -> bool
@@ -122,7 +45,7 @@ fn write_mask(
     let start = array.start;
     let len = array.count;
     if route.is_all_null() {
-        write_nulls(len, out);
+        words::write_nulls(len, out);
         return;
     }
     let layout = array.layout;
@@ -130,7 +53,7 @@ fn write_mask(
     if by_step(layout, route) {
         let over = taking::over_of(route);
         let t = taking::taken_fields(columns, fs, over);
-        write_words(over, columns, t, values, masks, ids, start, len, out);
+        words::write_words(over, columns, t, values, masks, ids, start, len, out);
         return;
     }
     let t = taking::taken_fields(columns, fs, Taken::WithNulls);

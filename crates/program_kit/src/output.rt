@@ -10,6 +10,20 @@ pub fn end() {
     text(b"\n");
 }
 
+// One of two texts.
+pub fn either(first: bool, a: &[u8], b: &[u8]) {
+    if first {
+        text(a);
+    } else {
+        text(b);
+    }
+}
+
+// The layout's name.
+pub fn layout(dense: bool) {
+    either(dense, b"dense", b"sparse");
+}
+
 // A number in decimal.
 pub fn decimal(n: u64) {
     io::print_decimal(STDOUT_FILENO, n);

@@ -1,4 +1,5 @@
 // Parts of lists.
+ghost use Prim.Native.Nat.{_≤_};
 
 // The n bytes from a start on; none if they are not there.
 pub fn bytes(list: &[u8], start: usize, n: usize) -> &[u8] {
@@ -54,4 +55,26 @@ pub fn first_words(list: &[u64], n: usize) -> &[u64] {
         return list;
     }
     &list[0..n]
+}
+
+// The lesser of two numbers.
+pub fn least(a: usize, b: usize) -> usize
+    ensures { λ r. ⌜ r ≤ b ⌝ }
+{
+    if a < b { a } else { b }
+}
+
+// The larger of two numbers.
+pub fn most(a: usize, b: usize) -> usize {
+    if a < b { b } else { a }
+}
+
+// How many of n entries are lent: one less to a call that is short of them, at most what there are.
+pub fn lent(n: usize, short: bool, most: usize) -> usize
+    ensures { λ r. ⌜ r ≤ most ⌝ }
+{
+    if short && 0 < n {
+        return least(n - 1, most);
+    }
+    least(n, most)
 }

@@ -1,6 +1,5 @@
 // Commands on the builder and the batch.
 use crate::commands::Command;
-use crate::commands::Fault;
 use crate::commands::Making;
 use crate::commands::Part;
 use crate::commands::Reading;
@@ -11,23 +10,10 @@ use crate::state::State;
 use crate::table;
 use crate::words;
 use array_columns::questions::entry_of;
-use program_kit::makings::making;
+use program_kit::builders;
 use union_builder::Appended;
-use union_builder::Finished;
-use union_builder::Made;
-use union_builder::UnionBuilder;
 
-// A making's answer; a refused one keeps the builder and the batch.
-fn made(s: State, m: Made, dense: bool, number: u64) -> State {
-    if m.refusal != 0 {
-        say::refused(number, m.refusal);
-        return s;
-    }
-    let b = m.builder;
-    say::made(number, dense, b.capacity, b.limit);
-    state::with_builder(s, b)
-}
-
+// A new builder, which drops the batch; a refused making keeps both.
 fn make(
     s: State,
     m: Making,
@@ -38,7 +24,7 @@ fn make(
     masks: &[u64],
     names: &[u8],
 ) -> State {
-    let r = making(
+    let r = builders::make(
         m.dense,
         m.capacity,
         m.limit,
@@ -48,7 +34,13 @@ fn make(
         masks,
         names,
     );
-    made(s, r, m.dense, number)
+    if r.refusal != 0 {
+        say::refused(number, r.refusal);
+        return s;
+    }
+    let b = r.builder;
+    say::made(number, m.dense, b.capacity, b.limit);
+    state::with_builder(s, b, false)
 }
 
 // The column of the last slot.
@@ -64,7 +56,7 @@ fn last_column(ids: &[i8], len: usize) -> usize {
     entry_of(id)
 }
 
-// An append's answer.
+// An append's answer, and the builder after it; a batch that it overwrites is dropped.
 fn appended(s: State, r: Appended, name: &[u8], null: bool, number: u64, ids: &[i8]) -> State {
     if r.refusal != 0 {
         say::refused_append(number, r.refusal, name);
@@ -74,26 +66,10 @@ fn appended(s: State, r: Appended, name: &[u8], null: bool, number: u64, ids: &[
     let b = r.builder;
     let fresh = before.count < b.count;
     say::appended(number, null, fresh, last_column(ids, b.len), b.len);
-    state::with_append(s, b)
+    state::with_builder(s, b, s.shown && !s.past)
 }
 
-fn put(
-    b: UnionBuilder,
-    r: Reading,
-    name: &[u8],
-    ids: &mut [i8],
-    offsets: &mut [i32],
-    values: &mut [u64],
-    masks: &mut [u64],
-    names: &mut [u8],
-) -> Appended {
-    let kind = r.kind;
-    if r.null {
-        return b.append_null(name, kind, ids, offsets, values, masks, names);
-    }
-    b.append(name, kind, r.bits, ids, offsets, values, masks, names)
-}
-
+// Appends a reading, and answers it.
 fn append(
     s: State,
     r: Reading,
@@ -105,43 +81,25 @@ fn append(
     masks: &mut [u64],
     names: &mut [u8],
 ) -> State {
-    if !s.made {
-        say::no_builder(number);
-        return s;
-    }
     let b = s.builder;
+    let kind = r.kind;
     let name = words::part(text, r.start, r.end);
-    let a = put(b, r, name, ids, offsets, values, masks, names);
+    let a = builders::append(
+        b,
+        name,
+        kind,
+        r.null,
+        r.bits,
+        ids,
+        offsets,
+        values,
+        masks,
+        names,
+    );
     appended(s, a, name, r.null, number, ids)
 }
 
-fn len(s: State, number: u64) -> State {
-    if !s.made {
-        say::no_builder(number);
-        return s;
-    }
-    let b = s.builder;
-    let r = b.len();
-    say::slots(number, b"", r.len, b" so far");
-    s
-}
-
-// What a builder describes: the batch so far, or the last one, which empties it.
-fn described(
-    b: UnionBuilder,
-    last: bool,
-    ids: &[i8],
-    offsets: &[i32],
-    values: &[u64],
-    masks: &[u64],
-    names: &[u8],
-) -> Finished {
-    if last {
-        return b.finish(ids, offsets, values, masks, names);
-    }
-    b.finish_cloned(ids, offsets, values, masks, names)
-}
-
+// The batch of a snapshot or a finish, and the builder after it.
 fn describe(
     s: State,
     last: bool,
@@ -152,12 +110,8 @@ fn describe(
     masks: &[u64],
     names: &[u8],
 ) -> State {
-    if !s.made {
-        say::no_builder(number);
-        return s;
-    }
     let b = s.builder;
-    let r = described(b, last, ids, offsets, values, masks, names);
+    let r = builders::finish(b, last, ids, offsets, values, masks, names);
     if r.refusal != 0 {
         say::refused(number, r.refusal);
         return s;
@@ -165,9 +119,16 @@ fn describe(
     let a = r.array;
     say::described(number, last, a.count);
     table::show(a, ids, offsets, values, masks, names);
-    state::with_batch(s, a, r.builder, last)
+    let after = r.builder;
+    let mut t = s;
+    t.array = a;
+    t.builder = after;
+    t.shown = true;
+    t.past = last;
+    t
 }
 
+// A slice in the place of the batch.
 fn slice(
     s: State,
     p: Part,
@@ -178,10 +139,6 @@ fn slice(
     masks: &[u64],
     names: &[u8],
 ) -> State {
-    if !s.shown {
-        say::no_batch(number);
-        return s;
-    }
     let a = s.array;
     let r = a.slice(p.start, p.count, ids, offsets, values, masks, names);
     if r.refusal != 0 {
@@ -191,50 +148,9 @@ fn slice(
     let part = r.array;
     say::slots(number, b"slice of ", part.count, b"");
     table::show(part, ids, offsets, values, masks, names);
-    state::with_slice(s, part)
-}
-
-fn mask(
-    s: State,
-    setting: usize,
-    number: u64,
-    ids: &[i8],
-    offsets: &[i32],
-    values: &[u64],
-    masks: &[u64],
-    names: &[u8],
-) -> State {
-    if !s.shown {
-        say::no_batch(number);
-        return s;
-    }
-    let a = s.array;
-    null_masks::show(number, a, setting, ids, offsets, values, masks, names);
-    s
-}
-
-// A bad line, which changes nothing.
-fn bad(s: State, f: Fault, number: u64) -> State {
-    say::fault(number, f);
-    s
-}
-
-// Answers a command on the batch.
-fn on_batch(
-    s: State,
-    command: Command,
-    number: u64,
-    ids: &[i8],
-    offsets: &[i32],
-    values: &[u64],
-    masks: &[u64],
-    names: &[u8],
-) -> State {
-    match command {
-        Command::Slice(p) => slice(s, p, number, ids, offsets, values, masks, names),
-        Command::Mask(c) => mask(s, c, number, ids, offsets, values, masks, names),
-        _ => s,
-    }
+    let mut t = s;
+    t.array = part;
+    t
 }
 
 // Answers a command that stores no reading.
@@ -249,11 +165,37 @@ fn show(
     names: &[u8],
 ) -> State {
     match command {
-        Command::Bad(f) => bad(s, f, number),
         Command::Make(m) => make(s, m, number, ids, offsets, values, masks, names),
-        Command::Len => len(s, number),
         Command::Describe(last) => describe(s, last, number, ids, offsets, values, masks, names),
-        _ => on_batch(s, command, number, ids, offsets, values, masks, names),
+        Command::Slice(p) => slice(s, p, number, ids, offsets, values, masks, names),
+        Command::Bad(f) => {
+            say::fault(number, f);
+            s
+        }
+        Command::Len => {
+            let b = s.builder;
+            let r = b.len();
+            say::slots(number, b"", r.len, b" so far");
+            s
+        }
+        Command::Mask(setting) => {
+            let a = s.array;
+            null_masks::show(number, a, setting, ids, offsets, values, masks, names);
+            s
+        }
+        _ => s,
+    }
+}
+
+// Whether there is the builder, or the batch, that a command is about; a line says if there is none.
+fn is_ready(made: bool, shown: bool, command: Command, number: u64) -> bool {
+    match command {
+        Command::Append(_) => say::is_there(number, made, b"builder"),
+        Command::Len => say::is_there(number, made, b"builder"),
+        Command::Describe(_) => say::is_there(number, made, b"builder"),
+        Command::Slice(_) => say::is_there(number, shown, b"batch"),
+        Command::Mask(_) => say::is_there(number, shown, b"batch"),
+        _ => true,
     }
 }
 
@@ -269,6 +211,9 @@ pub fn execute(
     masks: &mut [u64],
     names: &mut [u8],
 ) -> State {
+    if !is_ready(s.made, s.shown, command, number) {
+        return s;
+    }
     match command {
         Command::Append(r) => append(s, r, text, number, ids, offsets, values, masks, names),
         _ => show(s, command, number, ids, offsets, values, masks, names),

@@ -34,20 +34,17 @@ fn route_name(route: Route) {
 // What the null mask of n slots answers, but for its words.
 pub fn summary(r: LogicalNulls, n: usize, setting: usize) {
     output::text(b"nulls ");
-    print::size(r.nulls);
+    output::decimal(r.nulls as u64);
     output::text(b" of ");
-    print::size(n);
-    if r.present {
-        output::text(b", mask present, route ");
-    } else {
-        output::text(b", mask absent, route ");
-    }
+    output::decimal(n as u64);
+    output::either(r.present, b", mask present", b", mask absent");
+    output::text(b", route ");
     let route = r.route;
     output::decimal(route.number() as u64);
     output::text(b" (");
     route_name(route);
     output::text(b") at setting ");
-    print::size(setting);
+    output::decimal(setting as u64);
     output::text(b"\n");
 }
 

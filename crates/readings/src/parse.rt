@@ -243,9 +243,15 @@ fn alone(text: &[u8], from: usize, c: Command) -> Command {
     c
 }
 
-// The commands that have numbers.
-fn numbered(text: &[u8], w: Word) -> Command {
+// The command of a line that is neither empty nor a comment.
+fn command(text: &[u8], w: Word) -> Command {
     let first = words::part(text, w.start, w.end);
+    if words::same(first, b"append") {
+        return append(text, w.next, false);
+    }
+    if words::same(first, b"null") {
+        return append(text, w.next, true);
+    }
     if words::same(first, b"dense") {
         return making(text, w.next, true);
     }
@@ -259,18 +265,6 @@ fn numbered(text: &[u8], w: Word) -> Command {
         return masking(text, w.next);
     }
     alone(text, w.next, plain(first))
-}
-
-// The command of a line that is neither empty nor a comment.
-fn command(text: &[u8], w: Word) -> Command {
-    let first = words::part(text, w.start, w.end);
-    if words::same(first, b"append") {
-        return append(text, w.next, false);
-    }
-    if words::same(first, b"null") {
-        return append(text, w.next, true);
-    }
-    numbered(text, w)
 }
 
 // What a line asks.

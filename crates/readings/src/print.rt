@@ -5,19 +5,9 @@ use program_kit::output;
 use union_text::kind_names;
 use union_text::printable;
 
-// Prints a text; answers its length.
-pub fn sized(s: &[u8]) -> usize {
-    output::text(s);
-    s.len()
-}
-
-pub fn size(n: usize) {
-    output::decimal(n as u64);
-}
-
 // A number and a word for what it counts, with an s unless it is one.
 pub fn counted(n: usize, what: &[u8]) {
-    size(n);
+    output::decimal(n as u64);
     output::text(b" ");
     output::text(what);
     if n != 1 {
@@ -60,7 +50,8 @@ pub fn kind(k: Kind) -> usize {
     let name = kind_names::kind_name(k);
     let bytes = name.bytes;
     let size = name.size;
-    sized(&bytes[..size])
+    output::text(&bytes[..size]);
+    size
 }
 
 // A name, cut to 32 bytes, as it is printed.

@@ -38,71 +38,29 @@ fn bad_value(number: u64, kind: Kind) {
     output::text(b"\n");
 }
 
-// What 1 to 4 say, of a description and the memory.
-fn of_parts(n: u8) {
+// What each refusal of document 01 says.
+fn sentence(n: u8) {
     match n {
         1 => output::text(b"more than 128 columns, or ids that are not distinct and from 0 to 127"),
         2 => output::text(b"not as many children as columns"),
         3 => output::text(b"a part lies outside the memory, or a name has more than 32 bytes"),
-        _ => output::text(b"more than 65536 slots"),
-    }
-}
-
-// What 5 to 8 say, of slots, offsets and ids.
-fn of_slots(n: u8) {
-    match n {
+        4 => output::text(b"more than 65536 slots"),
         5 => output::text(b"not as many offsets as slots"),
         6 => output::text(b"a column has not as many slots as the batch"),
         7 => output::text(b"a slot's id names no column"),
-        _ => output::text(b"an offset lies outside its column"),
-    }
-}
-
-// What 9 to 11 say, of a call's numbers.
-fn of_places(n: u8) {
-    match n {
+        8 => output::text(b"an offset lies outside its column"),
         9 => output::text(b"the slice ends after the last slot"),
         10 => output::text(b"no such slot"),
-        _ => output::text(b"no such column"),
-    }
-}
-
-// What 12 to 14 say, of null masks.
-fn of_masks(n: u8) {
-    match n {
+        11 => output::text(b"no such column"),
         12 => output::text(b"the setting is none of 10, 3, 2 and 0"),
         13 => output::text(b"too few words for the mask"),
-        _ => output::text(b"the strategy does not apply"),
-    }
-}
-
-// What 15 to 17 say, of a builder and a name.
-fn of_builders(n: u8) {
-    match n {
+        14 => output::text(b"the strategy does not apply"),
         15 => output::text(b"a builder has 1 to 65536 slots and 1 to 128 columns"),
         16 => output::text(b"the memory is too small for so many slots and columns"),
-        _ => output::text(b"the name is not UTF-8 of at most 32 bytes"),
-    }
-}
-
-// What 18 to 20 say, of an append.
-fn of_appends(n: u8) {
-    match n {
+        17 => output::text(b"the name is not UTF-8 of at most 32 bytes"),
         18 => output::text(b"the column has another kind"),
         19 => output::text(b"every slot is taken"),
-        _ => output::text(b"every column is taken"),
-    }
-}
-
-// What each refusal of document 01 says.
-fn sentence(n: u8) {
-    match n {
-        1..=4 => of_parts(n),
-        5..=8 => of_slots(n),
-        9..=11 => of_places(n),
-        12..=14 => of_masks(n),
-        15..=17 => of_builders(n),
-        18..=20 => of_appends(n),
+        20 => output::text(b"every column is taken"),
         _ => output::text(b"unknown"),
     }
 }
@@ -129,24 +87,21 @@ pub fn refused_append(number: u64, n: u8, name: &[u8]) {
     output::text(b"\" has another kind\n");
 }
 
-pub fn no_builder(number: u64) {
-    line(number);
-    output::text(b"no builder yet\n");
-}
-
-pub fn no_batch(number: u64) {
-    line(number);
-    output::text(b"no batch yet\n");
+// Whether there is a builder, or a batch; a line says if there is none.
+pub fn is_there(number: u64, there: bool, what: &[u8]) -> bool {
+    if !there {
+        line(number);
+        output::text(b"no ");
+        output::text(what);
+        output::text(b" yet\n");
+    }
+    there
 }
 
 // A making's answer.
 pub fn made(number: u64, dense: bool, capacity: usize, limit: usize) {
     line(number);
-    if dense {
-        output::text(b"dense");
-    } else {
-        output::text(b"sparse");
-    }
+    output::layout(dense);
     output::text(b" builder of ");
     print::counted(capacity, b"slot");
     output::text(b" and ");
@@ -165,7 +120,7 @@ pub fn appended(number: u64, null: bool, fresh: bool, column: usize, len: usize)
         output::text(b"new ");
     }
     output::text(b"column ");
-    print::size(column);
+    output::decimal(column as u64);
     output::text(b", ");
     print::counted(len, b"slot");
     output::text(b" so far\n");

@@ -7,6 +7,7 @@ use array_columns::questions::entry_of;
 use logical_nulls::LogicalNulls;
 use logical_nulls::mask;
 use program_kit::output;
+use program_kit::parts;
 use union_array::UnionArray;
 use union_text::value_text;
 
@@ -16,23 +17,9 @@ pub struct Widths {
     pub values: usize,
 }
 
-// The larger of two numbers.
-fn larger(a: usize, b: usize) -> usize {
-    if a < b { b } else { a }
-}
-
 // The characters of a column's name.
 fn name_characters(c: Column, names: &[u8]) -> usize {
-    let start = c.name;
-    let size = c.size as usize;
-    if names.len() < size {
-        return 0;
-    }
-    if names.len() - size < start {
-        return 0;
-    }
-    let end = start + size;
-    print::characters(&names[start..end])
+    print::characters(parts::bytes(names, c.name, c.size as usize))
 }
 
 // The width of the names, at least that of their heading.
@@ -41,7 +28,7 @@ fn name_width(a: UnionArray, names: &[u8]) -> usize {
     for k in 0..128 {
         if k < a.fields {
             let c = a.columns[k];
-            width = larger(width, name_characters(c, names));
+            width = parts::most(width, name_characters(c, names));
         }
     }
     width
@@ -69,7 +56,7 @@ fn value_width(
     let mut width: usize = 5;
     for i in 0..a.count {
         let v = a.value(i, ids, offsets, values, masks, names);
-        width = larger(width, value_size(v));
+        width = parts::most(width, value_size(v));
     }
     width
 }
@@ -105,14 +92,6 @@ fn value_field(v: Value, width: usize) {
     print::right(&out[..n], width);
 }
 
-fn mark_field(null: bool) {
-    if null {
-        output::text(b"  null\n");
-    } else {
-        output::text(b"  -\n");
-    }
-}
-
 // A slot's row.
 fn row(v: Value, i: usize, w: Widths, null: bool) {
     let id = v.id;
@@ -124,7 +103,7 @@ fn row(v: Value, i: usize, w: Widths, null: bool) {
     output::text(b"  ");
     print::fill(print::kind(kind), 9);
     value_field(v, w.values);
-    mark_field(null);
+    output::either(null, b"  null\n", b"  -\n");
 }
 
 // The rows of the first n slots.

@@ -3,12 +3,12 @@ use crate::describe;
 use crate::describe::Call;
 use crate::numbers;
 use crate::print;
-use program_kit::makings::making;
+use program_kit::builders::append;
+use program_kit::builders::finish;
+use program_kit::builders::make;
 use program_kit::output;
 use program_kit::parts;
 use union_array::UnionArray;
-use union_builder::Appended;
-use union_builder::Finished;
 use union_builder::UnionBuilder;
 
 // What calls are made on: the builder, and the array that it finished last or one of its slices.
@@ -27,7 +27,7 @@ pub fn made(
     masks: &[u64],
     names: &[u8],
 ) -> Subject {
-    let m = making(
+    let m = make(
         c.op == 20,
         c.a as usize,
         c.b as usize,
@@ -43,29 +43,7 @@ pub fn made(
     Subject { builder, array }
 }
 
-// Appends a value or a null; the reading's three numbers are at a place, its name is in the text.
-fn append(
-    b: UnionBuilder,
-    words: &[u64],
-    reading: usize,
-    text: &[u8],
-    c: Call,
-    ids: &mut [i8],
-    offsets: &mut [i32],
-    values: &mut [u64],
-    masks: &mut [u64],
-    names: &mut [u8],
-) -> Appended {
-    let start = numbers::size(words, reading);
-    let name = parts::bytes(text, start, numbers::size(words, numbers::past(reading, 1)));
-    let kind = describe::kind_of(numbers::get(words, numbers::past(reading, 2)));
-    if c.op == 23 {
-        return b.append_null(name, kind, ids, offsets, values, masks, names);
-    }
-    b.append(name, kind, c.b, ids, offsets, values, masks, names)
-}
-
-// Calls 22 and 23.
+// Calls 22 and 23; the reading's three numbers are at a place, its name is in the text.
 pub fn appended(
     s: Subject,
     words: &[u64],
@@ -81,18 +59,11 @@ pub fn appended(
     let b = s.builder;
     let array = s.array;
     let reading = numbers::entry(readings, c.a);
-    let r = append(
-        b,
-        words,
-        reading,
-        text,
-        c,
-        ids,
-        offsets,
-        values,
-        masks,
-        names,
-    );
+    let start = numbers::size(words, reading);
+    let name = parts::bytes(text, start, numbers::size(words, numbers::past(reading, 1)));
+    let kind = describe::kind_of(numbers::get(words, numbers::past(reading, 2)));
+    let null = c.op == 23;
+    let r = append(b, name, kind, null, c.b, ids, offsets, values, masks, names);
     let builder = r.builder;
     print::line(c, r.refusal);
     Subject { builder, array }
@@ -108,8 +79,19 @@ pub fn counted(s: Subject, c: Call) -> Subject {
     Subject { builder, array }
 }
 
-// How many slots and fields a finished array has. A refused one leaves the array.
-fn told(c: Call, f: Finished, before: UnionArray) -> Subject {
+// Calls 25 and 26, `finish_cloned` and `finish`: how many slots and fields the array has. A refused one leaves the array.
+pub fn finished(
+    s: Subject,
+    c: Call,
+    ids: &[i8],
+    offsets: &[i32],
+    values: &[u64],
+    masks: &[u64],
+    names: &[u8],
+) -> Subject {
+    let b = s.builder;
+    let before = s.array;
+    let f = finish(b, c.op == 26, ids, offsets, values, masks, names);
     let builder = f.builder;
     let a = f.array;
     print::start(c, f.refusal);
@@ -124,26 +106,4 @@ fn told(c: Call, f: Finished, before: UnionArray) -> Subject {
     output::size(a.fields);
     output::end();
     Subject { builder, array: a }
-}
-
-// Calls 25 and 26: `finish_cloned` and `finish`.
-pub fn finished(
-    s: Subject,
-    c: Call,
-    ids: &[i8],
-    offsets: &[i32],
-    values: &[u64],
-    masks: &[u64],
-    names: &[u8],
-) -> Subject {
-    let b = s.builder;
-    let before = s.array;
-    if c.op == 25 {
-        return told(
-            c,
-            b.finish_cloned(ids, offsets, values, masks, names),
-            before,
-        );
-    }
-    told(c, b.finish(ids, offsets, values, masks, names), before)
 }

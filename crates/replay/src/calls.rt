@@ -7,7 +7,6 @@ use crate::describe::Places;
 use crate::lists;
 use crate::masks as null_masks;
 use crate::numbers;
-use crate::slots;
 use crate::whole;
 
 // Calls 1 to 15, on the array and on lent memory.
@@ -23,7 +22,6 @@ fn asked(
     let op = c.op;
     let a = s.array;
     match op {
-        2..=4 => slots::answer(a, c, ids, offsets, values, masks, names),
         9 => {
             let builder = s.builder;
             let array = whole::slice(a, c, ids, offsets, values, masks, names);

@@ -5,7 +5,7 @@ use crate::describe;
 use crate::describe::Places;
 use crate::lists;
 use crate::numbers;
-use union_builder::UnionBuilder;
+use program_kit::builders;
 
 // Stores entry i of each part of a case's memory.
 fn put(
@@ -46,10 +46,8 @@ fn fill(
 
 // What the calls of the case at a place are made on first: its array, and a builder whose making was refused.
 fn subject(words: &[u64], at: usize) -> Subject {
-    let m = UnionBuilder::with_capacity_sparse(0, 0, &[0i8], &[0i32], &[0u64], &[0u64], &[0u8]);
-    let builder = m.builder;
     Subject {
-        builder,
+        builder: builders::refused(),
         array: describe::array(words, at),
     }
 }

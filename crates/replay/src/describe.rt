@@ -6,6 +6,7 @@ use array_columns::Kind;
 use array_columns::Layout;
 use array_columns::kinds;
 use array_columns::questions;
+use program_kit::parts;
 use union_array::UnionArray;
 ghost use Prim.Native.Nat.{_≤_};
 
@@ -73,7 +74,7 @@ fn column(words: &[u64], at: usize) -> Column {
 fn column_count(words: &[u64], at: usize) -> usize
     ensures { λ r. ⌜ r ≤ 128 ⌝ }
 {
-    numbers::least(size_at(words, at, 8), 128)
+    parts::least(size_at(words, at, 8), 128)
 }
 
 // The columns of the case at a place; zeros after them.
@@ -127,13 +128,13 @@ pub fn locate(words: &[u64], at: usize) -> Places {
 
 // How many entries of a part are lent at most, up to 65537.
 pub fn most_lent(words: &[u64], p: Places) -> usize {
-    let ids = numbers::most(numbers::size(words, p.ids), numbers::size(words, p.offsets));
-    let values = numbers::most(
+    let ids = parts::most(numbers::size(words, p.ids), numbers::size(words, p.offsets));
+    let values = parts::most(
         numbers::size(words, p.values),
         numbers::size(words, p.masks),
     );
-    let names = numbers::most(numbers::size(words, p.names), numbers::size(words, p.text));
-    numbers::least(numbers::most(ids, numbers::most(values, names)), 65537)
+    let names = parts::most(numbers::size(words, p.names), numbers::size(words, p.text));
+    parts::least(parts::most(ids, parts::most(values, names)), 65537)
 }
 
 // The call whose five numbers are at a place.

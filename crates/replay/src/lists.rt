@@ -1,10 +1,12 @@
 // Lent memory from a case: how many entries are lent, and a list of the first ones. The rest are like the last of them.
 use crate::narrow;
 use crate::numbers;
+use program_kit::parts;
 ghost use Prim.Native.Nat.{_≤_};
 
-// Entry i; past the end the last one, 0 if there is none.
-fn entry(list: &[u64], i: usize) -> u64 {
+// Entry i of the memory lent at a place; past the end of its list the last one, 0 if there is none.
+fn lent_entry(words: &[u64], at: usize, i: usize) -> u64 {
+    let list = numbers::list(words, numbers::past(at, 1));
     let n = list.len();
     if i < n {
         return list[i];
@@ -13,11 +15,6 @@ fn entry(list: &[u64], i: usize) -> u64 {
         return 0;
     }
     list[n - 1]
-}
-
-// Entry i of the memory lent at a place.
-fn lent_entry(words: &[u64], at: usize, i: usize) -> u64 {
-    entry(numbers::list(words, numbers::past(at, 1)), i)
 }
 
 // Stores type id i of those lent at a place, if it is lent and there is room for it.
@@ -52,11 +49,5 @@ pub fn put_byte(words: &[u64], at: usize, i: usize, out: &mut [u8]) {
 pub fn lent(words: &[u64], at: usize, short: bool, most: usize) -> usize
     ensures { λ r. ⌜ r ≤ most ⌝ }
 {
-    let n = numbers::size(words, at);
-    if short {
-        if 0 < n {
-            return numbers::least(n - 1, most);
-        }
-    }
-    numbers::least(n, most)
+    parts::lent(numbers::size(words, at), short, most)
 }

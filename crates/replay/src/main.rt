@@ -9,7 +9,6 @@ mod masks;
 mod narrow;
 mod numbers;
 mod print;
-mod slots;
 mod whole;
 
 fn main() {

@@ -1,6 +1,5 @@
 // The numbers of a text, and lists among them. A number or a list past the end is 0 or empty.
 use program_kit::parts;
-ghost use Prim.Native.Nat.{_≤_};
 
 // A byte's digit; 10 if it is none.
 fn digit(b: u8) -> u64 {
@@ -84,19 +83,6 @@ pub fn count(words: &[u64], at: usize) -> usize {
 // A place some numbers on.
 pub fn past(at: usize, n: usize) -> usize {
     std::num::wrapping_add_usize(at, n)
-}
-
-pub fn least(a: usize, b: usize) -> usize
-    ensures { λ r. ⌜ r ≤ b ⌝ }
-{
-    if a < b {
-        return a;
-    }
-    b
-}
-
-pub fn most(a: usize, b: usize) -> usize {
-    if a < b { b } else { a }
 }
 
 // The list at a place: its length, then as many entries.

@@ -1,15 +1,32 @@
-// Calls 1, 5 to 9 and 12 to 15: what is told of the whole array, and its slices.
+// Calls 1 to 9 and 12 to 15: what is told of the array and its slots, and its slices.
 use crate::describe::Call;
 use crate::narrow;
 use crate::print;
 use array_columns::Column;
+use array_columns::Value;
 use array_columns::kinds::kind_number;
+use array_columns::questions::entry_of;
 use program_kit::output;
 use program_kit::parts;
 use union_array::Child;
 use union_array::NamePlace;
 use union_array::TypeNames;
 use union_array::UnionArray;
+
+// A value's id, kind, whether it is missing, bits, and name.
+fn told_value(c: Call, v: Value) {
+    let kind = v.kind;
+    let name = v.name;
+    print::start(c, v.refusal);
+    if v.refusal == 0 {
+        output::id(v.id);
+        output::small(kind_number(kind));
+        print::flag(v.missing);
+        output::number(v.bits);
+        print::name_of(name, v.size);
+    }
+    output::end();
+}
 
 // A child's id, kind, slots, whether it has a mask, and name.
 fn told_child(c: Call, r: Child, names: &[u8]) {
@@ -127,7 +144,7 @@ fn told_flag(
     print::told(c, r.refusal, r.holds as u64);
 }
 
-// Calls 1, 5 to 8 and 12 to 15. A number that names no call is printed as refused by 255.
+// Calls 1 to 8 and 12 to 15. A number that names no call is printed as refused by 255.
 pub fn answer(
     a: UnionArray,
     c: Call,
@@ -138,9 +155,19 @@ pub fn answer(
     names: &[u8],
 ) {
     let op = c.op;
+    let i = c.a as usize;
     let id = narrow::id(c.a);
     match op {
         1 => print::line(c, a.try_new(ids, offsets, values, masks, names)),
+        2 => told_value(c, a.value(i, ids, offsets, values, masks, names)),
+        3 => {
+            let r = a.type_id(i, ids, offsets, values, masks, names);
+            print::told(c, r.refusal, entry_of(r.id) as u64);
+        }
+        4 => {
+            let r = a.value_offset(i, ids, offsets, values, masks, names);
+            print::told(c, r.refusal, r.offset as u64);
+        }
         5 => told_child(c, a.child(id, ids, offsets, values, masks, names), names),
         6 => told_names(c, a.type_names(ids, offsets, values, masks, names), names),
         7..=8 => told_flag(a, c, ids, offsets, values, masks, names),

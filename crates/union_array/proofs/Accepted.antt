@@ -1,23 +1,24 @@
 -- What the answers yes tell: of 1 to 6, of one column, of 7 and 8, and of a slot. Assumes nothing.
 use mathlib.Core.Bool.{Bool, true}
 use mathlib.Core.Option.{some}
-use mathlib.Core.Path.{_≡_, refl, sym, ap, _∙_}
+use mathlib.Core.Path.{_≡_}
 use Prim.Native.Nat.{ℕ, _+_, _≤_, _<_}
 use native.Mathlib.Omega.{arith}
 use lib.Dec.{eqb, leb}
-use lib.IntN.{ℤ, natAbs}
+use lib.IntN.{ℤ}
 use lib.ListN.{length, getD}
 use borrow.Author.Tests.{leb-true, eqb-true, ltb-true}
 use Rattle.bitmap.proofs.Tables.{both, every-at}
-use Rattle.union_array.specs.Types.{Layout, Sparse, Dense, Column, UnionArray, noColumn, byLayout}
+use Rattle.union_array.specs.Types.{Sparse, Dense, Column, UnionArray, noColumn, byLayout, headOf}
 use Rattle.array_columns.specs.Buffers.{Buffers, amountsOf}
-use Rattle.union_array.specs.Slots.{inUse, all, columnOf, childAt, offsetAt, slotAt}
-use Rattle.union_array.specs.Questions.{validId, distinct, partIn, columnIn, question1, question2, question3, question4, question5, question6, question7, question8, question10, namedAt, withinChild, offsetFits, asked, checked, slotChecked}
+use Rattle.union_array.specs.Slots.{inUse, all, columnOf, childAt, slotAt}
+use Rattle.union_array.specs.Questions.{validId, distinct, partIn, columnIn, question1, question2, question3, question4, question5, question6, question7, question8, question10, namedAt, offsetFits, asked, checked, slotChecked}
 use Rattle.union_array.specs.Lookup.{orNone}
-pub use Rattle.union_array.specs.Accepted.{SlotAccepted}
+use Rattle.array_slots.specs.Accepted as low
 use Rattle.array_columns.proofs.Tests.{then-zero, yes-is, yes-then}
 use Rattle.array_columns.proofs.Columns.{all-at, all-found}
-use Rattle.array_columns.proofs.Accepted.{column-parts, within-abs}
+use Rattle.array_columns.proofs.Accepted.{column-parts}
+use Rattle.array_slots.proofs.Reading as reading
 pub use Rattle.array_columns.proofs.Accepted.{ColumnAccepted, mask-part, some-is}
 
 -- ---- 1 to 6
@@ -120,6 +121,10 @@ module _ (a : UnionArray) (m : Buffers) (y : Accepted a m) where
 
 -- ---- a slot
 
+-- 10, 7 and 8 of slot i
+abbrev pub SlotAccepted : UnionArray → Buffers → ℕ → Type 0
+SlotAccepted a m i = low.SlotAccepted (headOf a) (a .columns) (m .ids) (m .offsets) i
+
 module _ (a : UnionArray) (m : Buffers) (y : Accepted a m) (i : ℕ) (s : SlotAccepted a m i) where
   abbrev child : Column
   child = orNone (childAt a m i)
@@ -132,17 +137,7 @@ module _ (a : UnionArray) (m : Buffers) (y : Accepted a m) (i : ℕ) (s : SlotAc
 
   -- the slot is one of its child's
   pub slot-in : slotAt a m i < child .slots
-  slot-in = by (a .layout) refl
-    where
-      by : (l : Layout) → a .layout ≡ l → slotAt a m i < child .slots
-      by Sparse e =
-          let q = slots-found a m y e _ child child-is in
-          let b = s .low in
-          rw (ap (λ (l : Layout). byLayout l i (natAbs (offsetAt a m i))) e) (omega arith)
-      by Dense e =
-          let f : withinChild (offsetAt a m i) (childAt a m i) ≡ true
-          = sym (ap (λ (l : Layout). byLayout l true (withinChild (offsetAt a m i) (childAt a m i))) e) ∙ s .fits in
-          rw (ap (λ (l : Layout). byLayout l i (natAbs (offsetAt a m i))) e) (within-abs (offsetAt a m i) (child .slots) (rw child-is at f))
+  slot-in = reading.slot-in (headOf a) (a .columns) (m .ids) (m .offsets) i s (λ e. slots-found a m y e _ child child-is)
 
 -- ---- 7 and 8 of every slot, or of one
 

@@ -1,10 +1,8 @@
 -- Laws that belong to no one function.
 pub mod OnePass
 pub mod Accepted
-pub mod Places
 pub mod Checked
 pub mod ChildSlots
-pub mod Known
 pub mod Lookups
 pub mod Reading
 pub mod Runs

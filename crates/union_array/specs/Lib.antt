@@ -8,7 +8,5 @@ pub mod Values
 -- What the contracts of inner functions cite.
 pub mod Look
 pub mod Pass
-pub mod Check
-pub mod Accepted
 pub mod ChildSlot
 pub mod Movable

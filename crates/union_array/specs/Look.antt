@@ -8,7 +8,7 @@ use Rattle.array_columns.specs.Refusal.{ifYes}
 use Rattle.union_array.specs.Slots.{inUse, columnOf, isSome}
 use Rattle.union_array.specs.Questions.{asked}
 use Rattle.union_array.specs.Lookup.{orNone}
-pub use Rattle.union_array.specs.declared.Looked.{Looked}
+pub use Rattle.array_slots.specs.declared.Looked.{Looked}
 
 -- refused: no column
 abbrev pub notLooked : ℕ → Looked

@@ -1,10 +1,9 @@
 -- A run of slots: the id, the presence and the value of each, in one call.
-use mathlib.Core.Bool.{Bool, _&&_}
+use mathlib.Core.Bool.{Bool}
 use mathlib.Core.List.{List}
-use Prim.Native.Nat.{ℕ, zero, suc, _+_}
+use Prim.Native.Nat.{ℕ, _+_}
 use lib.Dec.{leb}
 use lib.IntN.{ℤ}
-use lib.ListN.{length}
 use Rattle.bitmap.specs.Lists.{retable}
 use Rattle.bitmap.specs.Bits.{digit}
 use Rattle.union_array.specs.Types.{UnionArray}
@@ -13,11 +12,7 @@ use Rattle.array_columns.specs.Refusal.{no, _then_, ifYes}
 use Rattle.union_array.specs.Questions.{namedAt, offsetFits, asked}
 use Rattle.union_array.specs.Lookup.{valueOf}
 use Rattle.array_columns.specs.Numbers.{badLength}
-
--- f 0, f 1, .., f (n - 1): the first of them that is not 0
-abbrev pub firstRefusal : ℕ → (ℕ → ℕ) → ℕ
-firstRefusal zero f = 0
-firstRefusal (suc n) f = firstRefusal n f then f n
+pub use Rattle.array_slots.specs.Values.{firstRefusal, Values, valuesAnswer, hasRoom}
 
 -- 7 and 8 of slot i
 abbrev pub slotNo : UnionArray → Buffers → ℕ → ℕ
@@ -30,19 +25,6 @@ runChecked a m first n room =
     then no 10 (leb (first + n) (a .count))
     then firstRefusal n (λ k. slotNo a m (first + k))
     then no badLength room
-
--- the number, and the outputs at exit
-pub record Values : Type 0 where
-  pub refusal : ℕ
-  pub ids : List ℤ
-  pub missing : List ℕ
-  pub bits : List ℕ
-
-abbrev pub valuesAnswer : ℕ → List ℤ → List ℕ → List ℕ → Values
-valuesAnswer refusal ids missing bits = record { refusal = refusal; ids = ids; missing = missing; bits = bits }
-
-abbrev pub hasRoom : ℕ → List ℤ → List ℕ → List ℕ → Bool
-hasRoom n ids missing bits = leb n (length ids) && (leb n (length missing) && leb n (length bits))
 
 -- element k of the outputs is of slot first + k, as a lookup of its value tells it; later elements, and all if refused, are kept
 unfoldable pub valuesOf : UnionArray → Buffers → ℕ → ℕ → List ℤ → List ℕ → List ℕ → Values

@@ -63,18 +63,3 @@ pub struct Slice {
     pub array: UnionArray,
     pub refusal: u8,
 }
-
-// What one pass over the columns tells every call: the first no of 1 to 6, and the column with an id.
-pub(crate) struct Looked {
-    pub column: Column,
-    pub refusal: u8,
-    pub found: bool,
-}
-
-// A slot's child, its slot in it and its type id.
-pub(crate) struct ChildSlot {
-    pub column: Column,
-    pub slot: usize,
-    pub refusal: u8,
-    pub id: i8,
-}

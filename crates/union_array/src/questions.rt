@@ -6,7 +6,6 @@ ghost use Rattle.array_columns.specs.Buffers.{buffersOf};
 ghost use Rattle.union_array.specs.Questions.{asked};
 ghost use Rattle.union_array.specs.Look.{notLooked, lookedBy, lookOf};
 ghost use Rattle.union_array.specs.Pass.{askedOf};
-use crate::Looked;
 use crate::UnionArray;
 use array_columns::Amounts;
 use array_columns::Column;
@@ -17,6 +16,7 @@ use array_columns::questions::head_fault;
 use array_columns::questions::is_dense;
 use array_columns::questions::no_column;
 use array_columns::questions::pass;
+use array_slots::Looked;
 
 // The array but for its columns.
 pub(crate) fn head_of(a: UnionArray) -> Head

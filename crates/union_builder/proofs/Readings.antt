@@ -5,76 +5,100 @@ use mathlib.Core.List.{List, [], _∷_}
 use mathlib.Core.Path.{_≡_, refl, sym, ap, ap₂, _∙_}
 use Prim.Native.Nat.{ℕ, zero, suc, _+_, _<_, _≤_}
 use native.Mathlib.Omega.{arith}
-use lib.Dec.{eqb, leb, ltb}
 use lib.ListN.{length, getD, set, take, drop}
-use borrow.Author.Tests.{lt-ltb, le-ltb, le-leb, lt-leb, leb-true, eqb-true}
+use lib.Seq.{length-take-le}
+use borrow.Author.Tests.{lt-ltb, le-leb, lt-leb}
 use Rattle.bitmap.specs.Lists.{times}
-use Rattle.bitmap.proofs.Tables.{both, times-more, retable-length}
+use Rattle.bitmap.proofs.Tables.{three, times-more}
 use Rattle.array_columns.specs.declared.Kind.{Kind}
 use Rattle.union_array.specs.Types.{kindNumber, widthOf, lowBits}
 use Rattle.array_columns.specs.Buffers.{Buffers, amountsOf}
 use Rattle.array_columns.specs.Refusal.{_then_, ifYes}
 use Rattle.array_columns.specs.Numbers.{kindFrom, flagFrom, badNumber, badLength}
-use Rattle.array_columns.proofs.Tests.{refused-is}
 use Rattle.array_columns.proofs.KindLaws.{numbered}
 use Rattle.union_names.specs.Names.{question17}
-use Rattle.builder_columns.specs.Planning.{refusedPlan}
-use Rattle.union_builder.specs.Builder.{UnionBuilder, openChecked, known}
-use Rattle.union_builder.specs.Append.{someIf, cutTo, appendChecked, builderAfter, buffersAfter, AppendOutcome, outcome, appendWith}
-use Rattle.union_builder.specs.Writing.{Plan}
-use Rattle.union_builder.specs.Planning.{Sound, grownAs, answerBy, appendedOf}
+use Rattle.builder_columns.specs.Writing.{writtenBy}
+use Rattle.builder_appends.specs.Readings.{cutSize}
+use Rattle.builder_appends.specs.declared.Step.{Step}
+use Rattle.builder_appends.specs.declared.Reading.{Reading}
+use Rattle.builder_appends.specs.Steps.{acceptedStep, refusedStep, planFor, Stepped, stepped, planned, appendBy, readingAt, readingBy}
+use Rattle.builder_appends.proofs.Asking.{then-zero}
+use Rattle.builder_appends.proofs.Stepping.{append-known}
+use Rattle.builder_appends.proofs.Runs.{cut-short, cut-long}
+use Rattle.union_builder.specs.Builder.{BuilderHead, UnionBuilder, builderHead, column, openChecked, known}
+use Rattle.union_builder.specs.Append.{someIf, cutTo, appendChecked, builderAfter, buffersAfter, AppendOutcome, outcome, appended, appendWith}
+use Rattle.union_builder.specs.Finding.{onlyNames}
+use Rattle.union_builder.proofs.Writing.{Plan}
+use Rattle.union_builder.proofs.Planning.{grownAs, planOf, appendedOf}
 use Rattle.union_builder.specs.Appends.{Readings, readingsOf, isReading, readingOf, RunOutcome, runOutcome, appendsStep, lengthsMatch, appendsOf}
-use Rattle.union_builder.proofs.Appending.{then-zero, append-value, append-none}
+use Rattle.union_builder.proofs.Plans.{plan-is}
+use Rattle.union_builder.proofs.Growing.{taken, accepted-after, refused-after, after-full}
+use Rattle.union_builder.proofs.Appending.{open-parts, append-no, append-yes, append-value, append-none}
 use Rattle.union_builder.proofs.Keeping.{append-open}
 
 -- ---- one reading
 
-module _ (lent start size kind present : ℕ) where
-  pub reading-name : lent < start + size → false ≡ isReading lent start size kind present
-  unfolding isReading
-  reading-name h = rw (lt-leb (start + size) lent h)
+-- what a step answers, and lent memory after it
+abbrev lifted : UnionBuilder → Stepped → AppendOutcome
+lifted b s = outcome (appended (taken b (s .step)) (s .step .refusal)) (s .buffers)
 
-  pub reading-kind : start + size ≤ lent → 10 ≤ kind → false ≡ isReading lent start size kind present
-  unfolding isReading
-  reading-kind h k = rw (le-leb (start + size) lent h, le-ltb kind 10 k)
+module _ (b : UnionBuilder) (m : Buffers) (full : length (b .columns) ≡ 128) (n : ℕ) (en : n ≡ openChecked b (amountsOf m)) where
+  module _ (name : List ℕ) (kind : Kind) (word : ℕ) (present : Bool) where
+    abbrev p : Plan
+    p = planFor n (builderHead b) (b .columns) (m .names) name kind
 
-  pub reading-flag : start + size ≤ lent → kind < 10 → ltb present 2 ≡ isReading lent start size kind present
-  unfolding isReading
-  reading-flag h k = rw (le-leb (start + size) lent h, lt-ltb kind 10 k)
+    abbrev yes-step : Stepped
+    yes-step = stepped (acceptedStep (builderHead b) p present) (writtenBy (builderHead b) p m name (someIf present word))
 
-  pub reading-in : isReading lent start size kind present ≡ true → start + size ≤ lent
-  unfolding isReading
-  reading-in e = leb-true (start + size) lent (both (leb (start + size) lent) _ e .0)
+    abbrev no-step : ℕ → Stepped
+    no-step k = stepped (refusedStep (builderHead b) (column b 0) k present) m
 
-module _ (text : List ℕ) (start size kind present bits : ℕ) (b : UnionBuilder) (m : Buffers) where
-  pub reading-bad : isReading (length text) start size kind present ≡ false → (p : Plan) → p ≡ refusedPlan badNumber → (v : Option ℕ)
-      → outcome (answerBy b p v) m ≡ readingOf text start size kind present bits b m
-  unfolding readingOf
-  reading-bad e p h v = rw (e, h)
+    by-number : (k : ℕ) → p .refusal ≡ k → lifted b (ifYes (p .refusal) yes-step (no-step (p .refusal))) ≡ appendedOf b m name kind (someIf present word)
+    by-number zero z =
+        let a = append-known n (builderHead b) (b .columns) (m .names) name kind p refl z (amountsOf m) (λ e. open-parts b (amountsOf m) (sym en ∙ e)) in
+        ap (λ (k : ℕ). lifted b (ifYes k yes-step (no-step k))) z
+        ∙ ap (λ (u : UnionBuilder). outcome (appended u 0) (yes-step .buffers)) (accepted-after b p present full (a .few) (a .used))
+        ∙ sym (ap (λ (k : ℕ). outcome (appended (ifYes k (grownAs b p (someIf present 0)) b) k) (yes-step .buffers)) z)
+        ∙ append-yes b m name kind n en p (plan-is b name kind n (m .names)) z present word (builderHead b) refl (yes-step .buffers) refl
+    by-number (suc k) z =
+        ap (λ (k : ℕ). lifted b (ifYes k yes-step (no-step k))) z
+        ∙ ap (λ (u : UnionBuilder). outcome (appended u (suc k)) m) (refused-after b (suc k) present full)
+        ∙ sym (ap (λ (k : ℕ). outcome (appended (ifYes k (grownAs b p (someIf present 0)) b) k) m) z)
+        ∙ append-no b m name kind n en p (plan-is b name kind n (m .names)) (someIf present 0) (someIf present word) (λ e. omega (arith, e, z))
 
-  -- a refused plan is no plan of the builder
-  pub bad-sound : (p : Plan) → p ≡ refusedPlan badNumber → p .refusal ≡ 0 → Sound b p
-  bad-sound p e h = let n : _≡_ {A = ℕ} 128 0 = sym (ap (λ (q : Plan). q .refusal) e) ∙ h in absurd (omega arith)
+    -- an append by the builder's parts
+    lifted-append : lifted b (appendBy n (builderHead b) (b .columns) name kind word present m) ≡ appendedOf b m name kind (someIf present word)
+    unfolding appendBy planned
+    lifted-append = by-number (p .refusal) refl
 
-  module _ (e : isReading (length text) start size kind present ≡ true) (name : List ℕ) (en : name ≡ take size (drop start text)) (k : Kind) (ek : k ≡ kindFrom kind) (word : ℕ) (ew : word ≡ lowBits (widthOf k) bits) where
-    cut : (t : Bool) → appendedOf b m name k (someIf t word) ≡ appendWith b m name k (someIf t bits)
-    cut true = append-value b m name k bits word ew
-    cut false = append-none b m name k
+  -- a value is cut to its kind
+  cut : (name : List ℕ) (kind : Kind) (bits : ℕ) (t : Bool)
+      → appendedOf b m name kind (someIf t (lowBits (widthOf kind) bits)) ≡ appendWith b m name kind (someIf t bits)
+  cut name kind bits true = append-value b m name kind bits _ refl
+  cut name kind bits false = append-none b m name kind
 
-    pub reading-good : (o : AppendOutcome) → o ≡ appendedOf b m name k (someIf (flagFrom present) word) → o ≡ readingOf text start size kind present bits b m
-    unfolding readingOf
-    reading-good o h = rw e (rw (en, ek) at (h ∙ cut (flagFrom present)))
-
-  -- the builder is open after a reading as before it
-  reading-open : openChecked ((readingOf text start size kind present bits b m) .answer .builder) (amountsOf m) ≡ openChecked b (amountsOf m)
-  unfolding readingOf
-  reading-open = by (isReading (length text) start size kind present)
+  lifted-reading : (text : List ℕ) (r : Reading)
+      → lifted b (readingBy n (builderHead b) (b .columns) text r m) ≡ readingOf text (r .start) (r .size) (r .kind) (r .present) (r .bits) b m
+  unfolding readingBy readingOf
+  lifted-reading text r = by (isReading (length text) (r .start) (r .size) (r .kind) (r .present))
     where
       by : (t : Bool)
-          → openChecked ((cond t (appendWith b m (take size (drop start text)) (kindFrom kind) (someIf (flagFrom present) bits)) (outcome (record { builder = b; refusal = badNumber }) m)) .answer .builder) (amountsOf m)
-          ≡ openChecked b (amountsOf m)
-      by true = append-open b m (take size (drop start text)) (kindFrom kind) (someIf (flagFrom present) bits)
-      by false = refl
+          → lifted b (cond t (appendBy n (builderHead b) (b .columns) (take (r .size) (drop (r .start) text)) (kindFrom (r .kind)) (lowBits (widthOf (kindFrom (r .kind))) (r .bits)) (flagFrom (r .present)) m) (stepped (refusedStep (builderHead b) (column b 0) badNumber (flagFrom (r .present))) m))
+          ≡ cond t (appendWith b m (take (r .size) (drop (r .start) text)) (kindFrom (r .kind)) (someIf (flagFrom (r .present)) (r .bits))) (outcome (appended b badNumber) m)
+      by true = lifted-append (take (r .size) (drop (r .start) text)) (kindFrom (r .kind)) (lowBits (widthOf (kindFrom (r .kind))) (r .bits)) (flagFrom (r .present)) ∙ cut (take (r .size) (drop (r .start) text)) (kindFrom (r .kind)) (r .bits) (flagFrom (r .present))
+      by false = ap (λ (u : UnionBuilder). outcome (appended u badNumber) m) (refused-after b badNumber (flagFrom (r .present)) full)
+
+-- the builder is open after a reading as before it
+reading-open : (text : List ℕ) (start size kind present bits : ℕ) (b : UnionBuilder) (m : Buffers)
+    → openChecked ((readingOf text start size kind present bits b m) .answer .builder) (amountsOf m) ≡ openChecked b (amountsOf m)
+unfolding readingOf
+reading-open text start size kind present bits b m = by (isReading (length text) start size kind present)
+  where
+    by : (t : Bool)
+        → openChecked ((cond t (appendWith b m (take size (drop start text)) (kindFrom kind) (someIf (flagFrom present) bits)) (outcome (record { builder = b; refusal = badNumber }) m)) .answer .builder) (amountsOf m)
+        ≡ openChecked b (amountsOf m)
+    by true = append-open b m (take size (drop start text)) (kindFrom kind) (someIf (flagFrom present) bits)
+    by false = refl
 
 -- ---- a run
 
@@ -82,67 +106,37 @@ pub amounts-kept : (m m′ : Buffers) → length (m′ .ids) ≡ length (m .ids)
     → length (m′ .masks) ≡ length (m .masks) → length (m′ .names) ≡ length (m .names) → amountsOf m′ ≡ amountsOf m
 amounts-kept m m′ hi ho hv hm hn = cc
 
--- the builder that follows a plan
-pub grown-no : (b : UnionBuilder) (p : Plan) (v : Option ℕ) → (p .refusal ≡ 0 → ⊥) → b ≡ (answerBy b p v) .builder
-grown-no b p v h = sym (refused-is (p .refusal) (grownAs b p v) b h)
-
-pub grown-yes : (b : UnionBuilder) (p : Plan) (v : Option ℕ) (w : UnionBuilder) → p .refusal ≡ 0 → w ≡ grownAs b p v → w ≡ (answerBy b p v) .builder
-grown-yes b p v w h e = e ∙ sym (ap (λ (n : ℕ). ifYes n (grownAs b p v) b) h)
+-- what holds of a run before reading k: the readings before it are appended, and the builder is as open as at first
+pub record Run (r : Readings) (n k : ℕ) (s : RunOutcome) (b : UnionBuilder) (m : Buffers) (refusals : List ℕ) : Type 0 where
+  pub done : runOutcome (record { builder = b; refusal = 0 }) m refusals ≡ times k (appendsStep r) s
+  pub asked : n ≡ openChecked b (amountsOf m)
+  pub full : length (b .columns) ≡ 128
 
 -- one reading more
-module _ (r : Readings) (k : ℕ) (s : RunOutcome) (b : UnionBuilder) (m : Buffers) (refusals : List ℕ) (p : Plan) (v : Option ℕ) (after : Buffers) (w : UnionBuilder)
-    (e : runOutcome (record { builder = b; refusal = 0 }) m refusals ≡ times k (appendsStep r) s)
-    (h : outcome (answerBy b p v) after ≡ readingOf (r .text) (getD (r .starts) k 0) (getD (r .sizes) k 0) (getD (r .kinds) k 0) (getD (r .present) k 0) (getD (r .bits) k 0) b m)
-    (g : w ≡ (answerBy b p v) .builder) where
-  pub each-appends : runOutcome (record { builder = w; refusal = 0 }) after (set refusals k (p .refusal)) ≡ times (k + 1) (appendsStep r) s
-  unfolding appendsStep
-  each-appends =
-      ap (λ (u : UnionBuilder). runOutcome (record { builder = u; refusal = 0 }) after (set refusals k (p .refusal))) g
-      ∙ ap (λ (x : AppendOutcome). runOutcome (record { builder = x .answer .builder; refusal = 0 }) (x .buffers) (set refusals k (x .answer .refusal))) h
-      ∙ ap (appendsStep r k) e
-      ∙ sym (times-more k (appendsStep r) s)
-
-  pub each-open : (n : ℕ) → n ≡ openChecked b (amountsOf m) → amountsOf after ≡ amountsOf m → n ≡ openChecked w (amountsOf after)
-  each-open n c a =
-      c
-      ∙ sym (reading-open (r .text) (getD (r .starts) k 0) (getD (r .sizes) k 0) (getD (r .kinds) k 0) (getD (r .present) k 0) (getD (r .bits) k 0) b m)
-      ∙ ap₂ openChecked (sym (g ∙ ap (λ (x : AppendOutcome). x .answer .builder) h)) (sym a)
-
-  pub each-full : length (b .columns) ≡ 128 → (p .refusal ≡ 0 → Sound b p) → length (w .columns) ≡ 128
-  unfolding grownAs
-  each-full f s = ap (λ (u : UnionBuilder). length (u .columns)) g ∙ at (p .refusal) s
-    where
-      at : (n : ℕ) → (n ≡ 0 → Sound b p) → length ((ifYes n (grownAs b p v) b) .columns) ≡ 128
-      at zero s = retable-length (p .count) _ (b .columns) (let few = s refl .few in omega arith) ∙ f
-      at (suc n) s = f
-
-pub record Matched (r : Readings) (lent : ℕ) : Type 0 where
-  pub sizes : length (r .sizes) ≡ length (r .starts)
-  pub kinds : length (r .kinds) ≡ length (r .starts)
-  pub present : length (r .present) ≡ length (r .starts)
-  pub bits : length (r .bits) ≡ length (r .starts)
-  pub room : length (r .starts) ≤ lent
-
-pub matched : (r : Readings) (lent : ℕ) → lengthsMatch r lent ≡ true → Matched r lent
-unfolding lengthsMatch
-matched r lent e =
-    let n = length (r .starts) in
-    let a = both (eqb (length (r .sizes)) n) _ e in
-    let b = both (eqb (length (r .kinds)) n) _ (a .1) in
-    let c = both (eqb (length (r .present)) n) _ (b .1) in
-    let d = both (eqb (length (r .bits)) n) (leb n lent) (c .1) in
+pub run-more : (r : Readings) (n k : ℕ) (s : RunOutcome) (b : UnionBuilder) (m : Buffers) (refusals : List ℕ) → Run r n k s b m refusals
+    → (h : BuilderHead) → h ≡ builderHead b → (x : Reading) → x ≡ readingAt r k
+    → (o : Step) (m′ : Buffers) → stepped o m′ ≡ readingBy n h (b .columns) (r .text) x m → o .rows ≤ 128 → amountsOf m′ ≡ amountsOf m
+    → (w : UnionBuilder) → w ≡ taken b o → Run r n (k + 1) s w m′ (set refusals k (o .refusal))
+unfolding appendsStep
+run-more r n k s b m refusals run h eh x ex o m′ e few a w g =
     record {
-      sizes = eqb-true (length (r .sizes)) n (a .0);
-      kinds = eqb-true (length (r .kinds)) n (b .0);
-      present = eqb-true (length (r .present)) n (c .0);
-      bits = eqb-true (length (r .bits)) n (d .0);
-      room = leb-true n lent (d .1);
+      done =
+          ap (λ (x : AppendOutcome). runOutcome (record { builder = x .answer .builder; refusal = 0 }) (x .buffers) (set refusals k (x .answer .refusal))) reads
+          ∙ ap (appendsStep r k) (run .done)
+          ∙ sym (times-more k (appendsStep r) s);
+      asked =
+          run .asked
+          ∙ sym (reading-open (r .text) (getD (r .starts) k 0) (getD (r .sizes) k 0) (getD (r .kinds) k 0) (getD (r .present) k 0) (getD (r .bits) k 0) b m)
+          ∙ ap₂ openChecked (sym (ap (λ (x : AppendOutcome). x .answer .builder) reads)) (sym a);
+      full = ap (λ (u : UnionBuilder). length (u .columns)) g ∙ after-full b o (run .full) few;
     }
-
--- the text does not matter to the lengths
-pub lengths-only : (r : Readings) (lent : ℕ) → lengthsMatch (readingsOf [] (r .starts) (r .sizes) (r .kinds) (r .present) (r .bits)) lent ≡ lengthsMatch r lent
-unfolding lengthsMatch
-lengths-only r lent = refl
+  where
+    reads : outcome (appended w (o .refusal)) m′
+        ≡ readingOf (r .text) (getD (r .starts) k 0) (getD (r .sizes) k 0) (getD (r .kinds) k 0) (getD (r .present) k 0) (getD (r .bits) k 0) b m
+    reads =
+        ap (λ (u : UnionBuilder). outcome (appended u (o .refusal)) m′) g
+        ∙ ap (lifted b) (e ∙ ap₂ (λ (y : BuilderHead) (z : Reading). readingBy n y (b .columns) (r .text) z m) eh ex)
+        ∙ lifted-reading b m (run .full) n (run .asked) (r .text) (readingAt r k)
 
 -- ---- the answer of a run
 
@@ -161,10 +155,6 @@ module _ (b : UnionBuilder) (m : Buffers) (r : Readings) (refusals : List ℕ) w
 take-all : (l : List ℕ) → take (length l) l ≡ l
 take-all [] = refl
 take-all (x ∷ xs) = ap (λ (t : List ℕ). x ∷ t) (take-all xs)
-
-pub then-first : (n k : ℕ) → (n ≡ 0 → ⊥) → n ≡ (n then k)
-then-first zero k h = absurd (h refl)
-then-first (suc n) k h = refl
 
 module _ (b : UnionBuilder) (m : Buffers) (name : List ℕ) (kind : Kind) (bits present : ℕ) where
   refused-append : (v : Option ℕ) (n : ℕ) → n ≡ appendChecked b m name kind → (n ≡ 0 → ⊥) → outcome (record { builder = b; refusal = n }) m ≡ appendWith b m name kind v
@@ -196,16 +186,40 @@ module _ (b : UnionBuilder) (m : Buffers) (name : List ℕ) (kind : Kind) (bits 
   unfolding lengthsMatch
   one-matches size number = refl
 
-  one-is : (number : ℕ) → number ≡ kindNumber kind → present < 2
-      → readingOf name 0 (length name) number present bits b m ≡ appendWith b m name kind (someIf (flagFrom present) bits)
+  -- a reading of at most 33 bytes of the name
+  one-of : (size number : ℕ) → size ≤ length name → number ≡ kindNumber kind → present < 2
+      → readingOf name 0 size number present bits b m ≡ appendWith b m (take size name) kind (someIf (flagFrom present) bits)
   unfolding readingOf isReading
-  one-is number e h =
-      rw (e, le-leb (0 + length name) (length name) (omega arith), lt-ltb (kindNumber kind) 10 (numbered kind .low), lt-ltb present 2 h, numbered kind .back, take-all name)
+  one-of size number l e h =
+      rw (e, le-leb (0 + size) (length name) (omega arith), lt-ltb (kindNumber kind) 10 (numbered kind .low), lt-ltb present 2 h, numbered kind .back)
 
-  pub one-appends : (number : ℕ) → number ≡ kindNumber kind → present < 2 → (after : UnionBuilder) (m′ : Buffers) (refusals : List ℕ)
-      → runOutcome (record { builder = after; refusal = 0 }) m′ refusals
-      ≡ times 1 (appendsStep (oneReading (length name) number)) (runOutcome (record { builder = b; refusal = 0 }) m (0 ∷ []))
-      → outcome (record { builder = after; refusal = getD refusals 0 0 }) m′ ≡ appendWith b m name kind (someIf (flagFrom present) bits)
-  unfolding appendsStep
-  one-appends number e h after m′ refusals q =
-      ap (λ (s : RunOutcome). outcome (record { builder = s .answer .builder; refusal = getD (s .refusals) 0 0 }) (s .buffers)) q ∙ one-is number e h
+one-is : (b : UnionBuilder) (m : Buffers) (name : List ℕ) (kind : Kind) (bits present size number : ℕ) → size ≡ cutSize (length name) → number ≡ kindNumber kind → present < 2
+    → readingOf name 0 size number present bits b m ≡ appendWith b m name kind (someIf (flagFrom present) bits)
+one-is b m name kind bits present size number es e h =
+    three (length name) 33 {P = readingOf name 0 size number present bits b m ≡ appendWith b m name kind (someIf (flagFrom present) bits)}
+    (λ l. short (es ∙ sym (cut-short (length name) l)))
+    (λ q. long (es ∙ sym (cut-long (length name) (omega arith))) (omega arith))
+    (λ l. long (es ∙ sym (cut-long (length name) (omega arith))) (omega arith))
+  where
+    short : size ≡ length name → readingOf name 0 size number present bits b m ≡ appendWith b m name kind (someIf (flagFrom present) bits)
+    short q =
+        one-of b m name kind bits present size number (omega (arith, q)) e h
+        ∙ ap (λ (l : List ℕ). appendWith b m l kind (someIf (flagFrom present) bits)) (ap (λ (i : ℕ). take i name) q ∙ take-all name)
+
+    -- both names are refused by 17
+    long : size ≡ 33 → 33 ≤ length name → readingOf name 0 size number present bits b m ≡ appendWith b m name kind (someIf (flagFrom present) bits)
+    long q l =
+        let c = length-take-le size name (omega (arith, q)) in
+        one-of b m name kind bits present size number (omega (arith, q)) e h
+        ∙ sym (append-long b m (take size name) kind bits present _ refl (omega (arith, c, q)))
+        ∙ append-long b m name kind bits present _ refl (omega arith)
+
+pub one-appends : (b : UnionBuilder) (m : Buffers) (name : List ℕ) (kind : Kind) (bits present size number : ℕ)
+    → size ≡ cutSize (length name) → number ≡ kindNumber kind → present < 2 → (w : UnionBuilder) (m′ : Buffers) (refusals : List ℕ)
+    → runOutcome (record { builder = w; refusal = 0 }) m′ refusals
+    ≡ times 1 (appendsStep (oneReading b m name kind bits present size number)) (runOutcome (record { builder = b; refusal = 0 }) m (0 ∷ []))
+    → outcome (record { builder = w; refusal = getD refusals 0 0 }) m′ ≡ appendWith b m name kind (someIf (flagFrom present) bits)
+unfolding appendsStep
+one-appends b m name kind bits present size number es e h w m′ refusals q =
+    ap (λ (s : RunOutcome). outcome (record { builder = s .answer .builder; refusal = getD (s .refusals) 0 0 }) (s .buffers)) q
+    ∙ one-is b m name kind bits present size number es e h

@@ -2,8 +2,8 @@
 use crate::Finished;
 use crate::UnionBuilder;
 use crate::builder::empty_builder;
-use crate::planning::head_of;
 use crate::questions::builder_checked;
+use crate::questions::head_of;
 use crate::questions::open_checked;
 use array_columns::Layout;
 use array_columns::questions::amounts;

@@ -4,7 +4,6 @@ mod appends;
 mod builder;
 mod finish;
 mod lent;
-mod planning;
 mod questions;
 
 use array_columns::Layout;

@@ -1,52 +1,25 @@
 // Questions 15 and 16.
 use crate::UnionBuilder;
 use array_columns::Amounts;
+use builder_appends::questions::lent_fits;
+use builder_appends::questions::numbers_fit;
+use builder_columns::BuilderHead;
 use builder_columns::fitting::columns_fit;
 ghost use mathlib.Core.Path.{_≡_};
-ghost use Prim.Native.Nat.{_≤_};
-ghost use Rattle.union_builder.specs.Builder.{question16, builderChecked, openChecked};
-ghost use Rattle.union_builder.specs.Finding.{numbersFit};
+ghost use Rattle.union_builder.specs.Builder.{builderHead, builderChecked, openChecked};
 
-// Question 15 but for the columns.
-fn numbers_fit(capacity: usize, limit: usize, len: usize, count: usize) -> bool
-    ensures { λ r. ⌜ r ≡ numbersFit capacity limit len count ⌝ }
+// A builder but for its columns.
+pub(crate) fn head_of(b: UnionBuilder) -> BuilderHead
+    ensures { λ r. ⌜ r ≡ builderHead b ⌝ }
 {
-    if capacity < 1 {
-        return false;
+    let layout = b.layout;
+    BuilderHead {
+        capacity: b.capacity,
+        limit: b.limit,
+        len: b.len,
+        count: b.count,
+        layout: layout,
     }
-    if 65536 < capacity {
-        return false;
-    }
-    if limit < 1 {
-        return false;
-    }
-    if 128 < limit {
-        return false;
-    }
-    if capacity < len {
-        return false;
-    }
-    count <= limit
-}
-
-// Question 16, of a builder that passed 15.
-fn lent_fits(capacity: usize, limit: usize, lent: Amounts) -> bool
-    requires { ⌜ (capacity ≤ 65536) × (limit ≤ 128) ⌝ }
-    ensures { λ r. ⌜ r ≡ question16 capacity limit lent ⌝ }
-{
-    if lent.ids < capacity {
-        return false;
-    }
-    if lent.offsets < capacity {
-        return false;
-    }
-    if lent.values < limit * capacity {
-        return false;
-    }
-    if lent.masks < limit * bitmap::words_for(capacity) {
-        return false;
-    }
-    32 * limit <= lent.names
 }
 
 // Questions 15 and 16.

@@ -5,24 +5,6 @@ use Rattle.bitmap.proofs.Chunks.{chunk-whole, chunk-cut}
 use Rattle.bitmap.proofs.chunk.Statement.{statement}
 use Rattle.bitmap.proofs.chunk.Tie as tie
 
-mul-done : tie.Need-mul-done
-mul-done c = search needs
-
-add-at : tie.Need-add-at
-add-at c = search needs
-
-sub-left : tie.Need-sub-left
-sub-left c = search needs
-
-add-joined : tie.Need-add-joined
-add-joined c = search needs
-
-joined-requires : tie.Need-joined-requires
-joined-requires c κs = search needs
-
-low-requires : tie.Need-low-requires
-low-requires c κs = search needs
-
 returns : tie.Need-returns
 returns c =
     let a = c .before .before .before .before .args in
@@ -38,4 +20,5 @@ returns-2 c =
 
 pub chunk-spec : {M : Type 1} → statement M
 chunk-spec =
-    tie.close (tie.spec mul-done add-at sub-left add-joined joined-requires low-requires returns returns-2)
+    tie.close (tie.spec (λ c. search needs) (λ c. search needs) (λ c. search needs) (λ c. search needs)
+    (λ c κs. search needs) (λ c κs. search needs) returns returns-2)

@@ -9,18 +9,6 @@ use Rattle.bitmap.proofs.Words.{bit-read}
 use Rattle.bitmap.proofs.get_bit.Statement.{statement}
 use Rattle.bitmap.proofs.get_bit.Tie as tie
 
-add-result : tie.Need-add-result
-add-result c = search needs
-
-mul-result : tie.Need-mul-result
-mul-result c = search needs
-
-shared-slice-read-result : tie.Need-shared-slice-read-result
-shared-slice-read-result c = search needs
-
-shr-result : tie.Need-shr-result
-shr-result c = search needs
-
 returns : tie.Need-returns
 unfolding testBit
 returns c =
@@ -30,4 +18,4 @@ returns c =
 
 pub get-bit-spec : {M : Type 1} → statement M
 get-bit-spec =
-    tie.close (tie.spec add-result mul-result shared-slice-read-result shr-result returns)
+    tie.close (tie.spec (λ c. search needs) (λ c. search needs) (λ c. search needs) (λ c. search needs) returns)

@@ -9,9 +9,6 @@ use Rattle.bitmap.proofs.Chunks.{one-shl}
 use Rattle.bitmap.proofs.low.Statement.{statement}
 use Rattle.bitmap.proofs.low.Tie as tie
 
-shl-result : tie.Need-shl-result
-shl-result c = search needs
-
 sub-result : tie.Need-sub-result
 sub-result c = subst (λ (m : ℕ). 1 ≤ m) (sym (one-shl (c .before .args .n) (omega arith))) (pow-pos (c .before .args .n))
 
@@ -24,4 +21,4 @@ returns-2 : tie.Need-returns-2
 returns-2 c = sym (mod-eq-of-lt (lt-of-lt-of-le (c .before .fits .x .fits) (pow-mono (c .if1 .left))))
 
 pub low-spec : {M : Type 1} → statement M
-low-spec = tie.close (tie.spec shl-result sub-result returns returns-2)
+low-spec = tie.close (tie.spec (λ c. search needs) sub-result returns returns-2)

@@ -1,9 +1,9 @@
 -- The loop counts the nulls of the bits before chunk k, at most len of them. Assumes nothing.
 use borrow.Author.Needs.{needs}
 use mathlib.Core.Path.{_≡_, sym, ap, _∙_}
-use Prim.Native.Nat.{ℕ, _+_, _-_, _*_, _<_, _≤_, min}
+use Prim.Native.Nat.{_+_, _-_, _*_, _<_, _≤_, min}
 use native.Mathlib.Omega.{arith}
-use Rattle.bitmap.specs.Bits.{nullsOf}
+use Rattle.bitmap.specs.Bits.{nullsOf, nullCount}
 use Rattle.bitmap.proofs.Counts.{nulls-none, nulls-le, chunk-fits, chunk-turn}
 use Rattle.bitmap.proofs.null_count.Statement.{statement}
 use Rattle.bitmap.proofs.null_count.Tie as tie
@@ -14,9 +14,6 @@ Inv-loop words word bit len c₀ k₀ c k = (64 * k ≤ len + 63) × (c .nulls �
 abbrev μ-loop : tie.MeasureT-loop
 μ-loop words word bit len c₀ k₀ c k = len + 64 - 64 * k
 
-empty-count-requires : tie.Need-empty-count-requires Inv-loop μ-loop
-empty-count-requires c κs = search needs
-
 loop-holds : tie.Need-loop-holds Inv-loop μ-loop
 loop-holds c =
     let a = c .before .before .args in
@@ -24,21 +21,6 @@ loop-holds c =
   where
     none : min 0 (c .before .before .args .len) ≡ 0
     none = omega arith
-
-mul-loop : tie.Need-mul-loop Inv-loop μ-loop
-mul-loop c = omega arith
-
-chunk-requires : tie.Need-chunk-requires Inv-loop μ-loop
-chunk-requires c κs = search needs
-
-mul-span : tie.Need-mul-span Inv-loop μ-loop
-mul-span c = omega arith
-
-sub-span : tie.Need-sub-span Inv-loop μ-loop
-sub-span c = omega arith
-
-span-requires : tie.Need-span-requires Inv-loop μ-loop
-span-requires c κs = search needs
 
 counted-requires : tie.Need-counted-requires Inv-loop μ-loop
 counted-requires c κs =
@@ -48,12 +30,6 @@ counted-requires c κs =
       chunk-fits (a .words .now) (64 * a .word + a .bit) (a .len) (l .k) (c .before .chunk .result) (c .span .result) (c .before .chunk .ensures) (c .span .ensures),
       omega (arith, l .inv .1, nulls-le (a .words .now) (64 * a .word + a .bit) (min (64 * l .k) (a .len))),
     )
-
-add-k : tie.Need-add-k Inv-loop μ-loop
-add-k c = omega arith
-
-loop-less : tie.Need-loop-less Inv-loop μ-loop
-loop-less c = omega arith
 
 loop-again : tie.Need-loop-again Inv-loop μ-loop
 loop-again c =
@@ -70,23 +46,10 @@ returns : tie.Need-returns Inv-loop μ-loop
 returns c =
     let a = c .before .before .before .before .args in
     let e : min (64 * c .before .loop .k) (a .len) ≡ a .len = omega arith in
-    ap (λ (n : ℕ). record { nulls = n }) (c .before .loop .inv .1 ∙ ap (nullsOf (a .words .now) (64 * a .word + a .bit)) e)
+    ap nullCount (c .before .loop .inv .1 ∙ ap (nullsOf (a .words .now) (64 * a .word + a .bit)) e)
 
 pub null-count-spec : {M : Type 1} → statement M
 null-count-spec =
-    tie.close
-    (tie.spec
-    Inv-loop
-    μ-loop
-    empty-count-requires
-    loop-holds
-    mul-loop
-    chunk-requires
-    mul-span
-    sub-span
-    span-requires
-    counted-requires
-    add-k
-    loop-less
-    loop-again
-    returns)
+    tie.close (tie.spec Inv-loop μ-loop (λ c κs. search needs) loop-holds (λ c. omega arith) (λ c κs. search needs)
+    (λ c. omega arith) (λ c. omega arith) (λ c κs. search needs) counted-requires (λ c. omega arith)
+    (λ c. omega arith) loop-again returns)

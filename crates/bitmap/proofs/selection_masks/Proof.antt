@@ -24,12 +24,6 @@ abbrev μ-loop : tie.MeasureT-loop
 loop-holds : tie.Need-loop-holds Inv-loop μ-loop
 loop-holds c = (omega arith, search needs, none-selected (c .args .ids .now) (c .args .start))
 
-add-id : tie.Need-add-id Inv-loop μ-loop
-add-id c = omega arith
-
-shared-slice-copy-out-id : tie.Need-shared-slice-copy-out-id Inv-loop μ-loop
-shared-slice-copy-out-id c = omega arith
-
 cast-id : tie.Need-cast-id Inv-loop μ-loop
 cast-id c =
     let st = c .before .before .before in
@@ -45,9 +39,6 @@ index c =
     let j = c .before .before .loop .j in
     id-index (getD (st .args .ids .now) (st .args .start + j) (pos 0)) (c .id .given) (st .pre .1 j (c .before .loop-test .taken))
 
-shl-masks : tie.Need-shl-masks Inv-loop μ-loop
-shl-masks c = omega arith
-
 mul-masks : tie.Need-mul-masks Inv-loop μ-loop
 mul-masks c = omega (arith, index c .0)
 
@@ -56,12 +47,6 @@ array-read-masks c = omega (arith, index c .0)
 
 array-write-masks : tie.Need-array-write-masks Inv-loop μ-loop
 array-write-masks c = omega (arith, index c .0)
-
-add-j : tie.Need-add-j Inv-loop μ-loop
-add-j c = omega arith
-
-loop-less : tie.Need-loop-less Inv-loop μ-loop
-loop-less c = search needs
 
 loop-again : tie.Need-loop-again Inv-loop μ-loop
 loop-again c =
@@ -83,19 +68,5 @@ returns c =
 
 pub selection-masks-spec : {M : Type 1} → statement M
 selection-masks-spec =
-    tie.close
-    (tie.spec
-    Inv-loop
-    μ-loop
-    loop-holds
-    add-id
-    shared-slice-copy-out-id
-    cast-id
-    shl-masks
-    mul-masks
-    array-read-masks
-    array-write-masks
-    add-j
-    loop-less
-    loop-again
-    returns)
+    tie.close (tie.spec Inv-loop μ-loop loop-holds (λ c. omega arith) (λ c. omega arith) cast-id (λ c. omega arith)
+    mul-masks array-read-masks array-write-masks (λ c. omega arith) (λ c. search needs) loop-again returns)

@@ -3,12 +3,9 @@ use Rattle.bitmap.specs.Bits.{wordsFor}
 use Rattle.bitmap.proofs.words_for.Statement.{statement}
 use Rattle.bitmap.proofs.words_for.Tie as tie
 
-add-result : tie.Need-add-result
-add-result c = search needs
-
 returns : tie.Need-returns
 unfolding wordsFor
 returns c = search needs
 
 pub words-for-spec : {M : Type 1} → statement M
-words-for-spec = tie.close (tie.spec add-result returns)
+words-for-spec = tie.close (tie.spec (λ c. search needs) returns)

@@ -9,45 +9,7 @@ Inv-loop count i₀ i = Unit {0}
 abbrev μ-loop : tie.MeasureT-loop
 μ-loop count i₀ i = count - i
 
-arg-count-requires : tie.Need-arg-count-requires Inv-loop μ-loop
-arg-count-requires c κs = tt
-
-run-requires : tie.Need-run-requires Inv-loop μ-loop
-run-requires c κs = tt
-
-returns : tie.Need-returns Inv-loop μ-loop
-returns c = tt
-
-loop-holds : tie.Need-loop-holds Inv-loop μ-loop
-loop-holds c = tt
-
-file-requires : tie.Need-file-requires Inv-loop μ-loop
-file-requires c κs = tt
-
-add-i : tie.Need-add-i Inv-loop μ-loop
-add-i c = omega arith
-
-loop-less : tie.Need-loop-less Inv-loop μ-loop
-loop-less c = omega arith
-
-loop-again : tie.Need-loop-again Inv-loop μ-loop
-loop-again c = tt
-
-returns-2 : tie.Need-returns-2 Inv-loop μ-loop
-returns-2 c = tt
-
 pub main-spec : {M : Type 1} → statement M
 main-spec =
-    tie.close
-    (tie.spec
-    Inv-loop
-    μ-loop
-    arg-count-requires
-    run-requires
-    returns
-    loop-holds
-    file-requires
-    add-i
-    loop-less
-    loop-again
-    returns-2)
+    tie.close (tie.spec Inv-loop μ-loop (λ c κs. tt) (λ c κs. tt) (λ c. tt) (λ c. tt) (λ c κs. tt) (λ c. omega arith)
+    (λ c. omega arith) (λ c. tt) (λ c. tt))

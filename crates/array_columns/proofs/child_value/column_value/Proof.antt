@@ -14,11 +14,11 @@ lent s = let a = s .args in buffersOf [] [] (a .values .now) (a .masks .now) (a 
 parts : (s : tie.Start) → Inside (amountsOf (lent s)) (s .args .c)
 parts s = inside (amountsOf (lent s)) (s .args .c) (s .pre .1)
 
-cast-padded-name : tie.Need-cast-padded-name
-cast-padded-name c = search needs
-
 padded-name-requires : tie.Need-padded-name-requires
-padded-name-requires c κs = let h = parts (c .before .before .before .before) in (h .short, h .name)
+padded-name-requires c κs =
+    let there = c .before .before .before .before in
+    let h = parts there in
+    (h .short, h .name)
 
 slot-value-requires : tie.Need-slot-value-requires
 slot-value-requires c κs =
@@ -34,4 +34,4 @@ returns c =
     (value-as (s .args .c) (lent s) (s .args .p) (v .slot-value .result) (n .padded-name .result) (v .slot-value .ensures) (n .padded-name .ensures))
 
 pub column-value-spec : {M : Type 1} → statement M
-column-value-spec = tie.close (tie.spec cast-padded-name padded-name-requires slot-value-requires returns)
+column-value-spec = tie.close (tie.spec (λ c. search needs) padded-name-requires slot-value-requires returns)

@@ -6,9 +6,6 @@ use borrow.Author.Needs.{needs}
 use Rattle.array_columns.proofs.child_value.low_bits.Statement.{statement}
 use Rattle.array_columns.proofs.child_value.low_bits.Tie as tie
 
-width-requires : tie.Need-width-requires
-width-requires c κs = search needs
-
 low-requires : tie.Need-low-requires
 low-requires c κs = rw (c .width .ensures) (width-le (c .before .args .k))
 
@@ -17,4 +14,4 @@ unfolding lowBits
 returns c = c .low .ensures ∙ ap (λ (w : ℕ). c .before .before .args .x % 2 ^ w) (c .before .width .ensures)
 
 pub low-bits-spec : {M : Type 1} → statement M
-low-bits-spec = tie.close (tie.spec width-requires low-requires returns)
+low-bits-spec = tie.close (tie.spec (λ c κs. search needs) low-requires returns)

@@ -5,21 +5,6 @@ use borrow.Author.Needs.{needs}
 use Rattle.array_columns.proofs.child_value.slot_value.Statement.{statement}
 use Rattle.array_columns.proofs.child_value.slot_value.Tie as tie
 
-is-present-requires : tie.Need-is-present-requires
-is-present-requires c κs = search needs
-
-add-at : tie.Need-add-at
-add-at c = search needs
-
-mul-low-bits : tie.Need-mul-low-bits
-mul-low-bits c = search needs
-
-shared-slice-read-low-bits : tie.Need-shared-slice-read-low-bits
-shared-slice-read-low-bits c = search needs
-
-low-bits-requires : tie.Need-low-bits-requires
-low-bits-requires c κs = search needs
-
 returns : tie.Need-returns
 returns c =
     let q = c .before .before .before in
@@ -36,12 +21,5 @@ returns-2 c =
 
 pub slot-value-spec : {M : Type 1} → statement M
 slot-value-spec =
-    tie.close
-    (tie.spec
-    is-present-requires
-    add-at
-    mul-low-bits
-    shared-slice-read-low-bits
-    low-bits-requires
-    returns
-    returns-2)
+    tie.close (tie.spec (λ c κs. search needs) (λ c. search needs) (λ c. search needs) (λ c. search needs)
+    (λ c κs. search needs) returns returns-2)

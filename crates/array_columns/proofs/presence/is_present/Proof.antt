@@ -6,12 +6,6 @@ use borrow.Author.Needs.{needs}
 use Rattle.array_columns.proofs.presence.is_present.Statement.{statement}
 use Rattle.array_columns.proofs.presence.is_present.Tie as tie
 
-cast-get-bit : tie.Need-cast-get-bit
-cast-get-bit c = search needs
-
-add-get-bit : tie.Need-add-get-bit
-add-get-bit c = search needs
-
 get-bit-requires : tie.Need-get-bit-requires
 get-bit-requires c κs =
     let s = c .before .before .before .before in
@@ -28,4 +22,4 @@ returns-2 c =
     no-mask (s .args .c) (onlyWords (s .args .values .now) (s .args .masks .now)) (c .if1 .left) (s .args .p)
 
 pub is-present-spec : {M : Type 1} → statement M
-is-present-spec = tie.close (tie.spec cast-get-bit add-get-bit get-bit-requires returns returns-2)
+is-present-spec = tie.close (tie.spec (λ c. search needs) (λ c. search needs) get-bit-requires returns returns-2)

@@ -6,9 +6,6 @@ use borrow.Author.Needs.{needs}
 use Rattle.array_columns.proofs.presence.presence_chunk.Statement.{statement}
 use Rattle.array_columns.proofs.presence.presence_chunk.Tie as tie
 
-cast-chunk : tie.Need-cast-chunk
-cast-chunk c = search needs
-
 chunk-requires : tie.Need-chunk-requires
 chunk-requires c κs =
     let s = c .before .before .before .before in
@@ -19,18 +16,6 @@ returns c =
     let s = c .before .before .before .before .before in
     c .chunk .ensures ∙ chunk-masked (s .args .c) (onlyWords (s .args .values .now) (s .args .masks .now)) (s .args .len) (s .args .k) (c .before .before .if1 .taken)
 
-mul-span : tie.Need-mul-span
-mul-span c = search needs
-
-sub-span : tie.Need-sub-span
-sub-span c = search needs
-
-span-requires : tie.Need-span-requires
-span-requires c κs = search needs
-
-low-requires : tie.Need-low-requires
-low-requires c κs = search needs
-
 returns-2 : tie.Need-returns-2
 returns-2 c =
     let s = c .before .before .before .before .before in
@@ -39,13 +24,5 @@ returns-2 c =
 
 pub presence-chunk-spec : {M : Type 1} → statement M
 presence-chunk-spec =
-    tie.close
-    (tie.spec
-    cast-chunk
-    chunk-requires
-    returns
-    mul-span
-    sub-span
-    span-requires
-    low-requires
-    returns-2)
+    tie.close (tie.spec (λ c. search needs) chunk-requires returns (λ c. search needs) (λ c. search needs)
+    (λ c κs. search needs) (λ c κs. search needs) returns-2)

@@ -12,16 +12,10 @@ returns c =
     let a = c .before .args in
     sym (lt-leb (64 * a .w + a .b + a .n) (64 * a .lent) (omega arith))
 
-add-result : tie.Need-add-result
-add-result c = search needs
-
-add-result-2 : tie.Need-add-result-2
-add-result-2 c = search needs
-
 returns-2 : tie.Need-returns-2
 returns-2 c =
     let a = c .before .args in
     leb-same ((a .b + a .n + 63) / 64) (a .lent - a .w) (64 * a .w + a .b + a .n) (64 * a .lent) (λ h. omega arith) (λ h. omega arith)
 
 pub bits-in-spec : {M : Type 1} → statement M
-bits-in-spec = tie.close (tie.spec returns add-result add-result-2 returns-2)
+bits-in-spec = tie.close (tie.spec returns (λ c. search needs) (λ c. search needs) returns-2)

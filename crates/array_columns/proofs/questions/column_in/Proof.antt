@@ -10,23 +10,11 @@ returns : tie.Need-returns
 unfolding columnIn
 returns c = rw (lt-leb (c .before .before .args .c .size) 32 (omega arith))
 
-cast-part-in : tie.Need-cast-part-in
-cast-part-in c = search needs
-
-part-in-requires : tie.Need-part-in-requires
-part-in-requires c κs = search needs
-
 returns-2 : tie.Need-returns-2
 unfolding columnIn
 returns-2 c =
     let i = c .before .before .before in
     rw (le-leb (i .before .before .args .c .size) 32 (omega arith), sym (c .before .part-in .ensures) ∙ not-true _ (c .if2 .taken))
-
-cast-part-in-2 : tie.Need-cast-part-in-2
-cast-part-in-2 c = search needs
-
-part-in-requires-2 : tie.Need-part-in-requires-2
-part-in-requires-2 c κs = search needs
 
 returns-3 : tie.Need-returns-3
 unfolding columnIn
@@ -38,9 +26,6 @@ returns-3 c =
       sym (i .before .part-in .ensures) ∙ not-false _ (i .if2 .left),
       sym (c .before .part-in2 .ensures) ∙ not-true _ (c .if3 .taken),
     )
-
-bits-in-requires : tie.Need-bits-in-requires
-bits-in-requires c κs = search needs
 
 returns-4 : tie.Need-returns-4
 unfolding columnIn
@@ -71,15 +56,5 @@ returns-5 c =
 
 pub column-in-spec : {M : Type 1} → statement M
 column-in-spec =
-    tie.close
-    (tie.spec
-    returns
-    cast-part-in
-    part-in-requires
-    returns-2
-    cast-part-in-2
-    part-in-requires-2
-    returns-3
-    bits-in-requires
-    returns-4
-    returns-5)
+    tie.close (tie.spec returns (λ c. search needs) (λ c κs. search needs) returns-2 (λ c. search needs)
+    (λ c κs. search needs) returns-3 (λ c κs. search needs) returns-4 returns-5)

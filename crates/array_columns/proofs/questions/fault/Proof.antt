@@ -17,9 +17,6 @@ told c =
 valid : (c : tie.Else1) → validId (c .before .before .before .args .c .id) ≡ true
 valid c = told (c .before) ∙ not-false _ (c .if1 .left)
 
-valid-id-requires : tie.Need-valid-id-requires
-valid-id-requires c κs = search needs
-
 returns : tie.Need-returns
 unfolding columnFault
 returns c = rw (told (c .before) ∙ not-true _ (c .if1 .taken))
@@ -27,9 +24,6 @@ returns c = rw (told (c .before) ∙ not-true _ (c .if1 .taken))
 returns-2 : tie.Need-returns-2
 unfolding columnFault
 returns-2 c = rw (valid (c .before), c .if2 .taken)
-
-column-in-requires : tie.Need-column-in-requires
-column-in-requires c κs = search needs
 
 returns-3 : tie.Need-returns-3
 unfolding columnFault
@@ -53,9 +47,6 @@ returns-5 c =
     let a = g .before .before .before .before .args in
     rw (valid (g .before), g .if2 .left, sym (i .before .column-in .ensures) ∙ not-false _ (i .if3 .left), le-leb (a .c .slots) 65536 (c .before .if4 .left), c .if5 .taken)
 
-cast-if6 : tie.Need-cast-if6
-cast-if6 c = search needs
-
 returns-6 : tie.Need-returns-6
 unfolding columnFault
 returns-6 c =
@@ -76,15 +67,5 @@ returns-7 c =
 
 pub fault-spec : {M : Type 1} → statement M
 fault-spec =
-    tie.close
-    (tie.spec
-    valid-id-requires
-    returns
-    returns-2
-    column-in-requires
-    returns-3
-    returns-4
-    returns-5
-    cast-if6
-    returns-6
-    returns-7)
+    tie.close (tie.spec (λ c κs. search needs) returns returns-2 (λ c κs. search needs) returns-3 returns-4 returns-5
+    (λ c. search needs) returns-6 returns-7)

@@ -4,9 +4,6 @@ use Rattle.array_columns.proofs.OnePass.{first-none, first-some}
 use Rattle.array_columns.proofs.questions.first_no.Statement.{statement}
 use Rattle.array_columns.proofs.questions.first_no.Tie as tie
 
-least-requires : tie.Need-least-requires
-least-requires c κs = search needs
-
 returns : tie.Need-returns
 returns c =
     let l = c .before in
@@ -18,4 +15,4 @@ returns-2 c =
     first-some (l .before .args .a) (l .before .args .b) (l .least .result) (l .least .ensures) (c .if1 .left)
 
 pub first-no-spec : {M : Type 1} → statement M
-first-no-spec = tie.close (tie.spec least-requires returns returns-2)
+first-no-spec = tie.close (tie.spec (λ c κs. search needs) returns returns-2)

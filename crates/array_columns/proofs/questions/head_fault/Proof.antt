@@ -21,22 +21,18 @@ offsets3 : (c : tie.Else3)
     byLayout (a .h .layout) true (partIn (a .h .«offsets_start») (a .h .«offsets_count») (a .lent .offsets)) ≡ true
 offsets3 c = sym (c .before .offsets-in .ensures) ∙ not-false _ (c .if3 .left)
 
-yes4 : (c : tie.Else4) → leb (c .before .before .before .before .before .before .before .before .args .h .count) 65536 ≡ true
+yes4 : (c : tie.Else4) →
+    let a = c .before .before .before .before .before .before .before .before .args in
+    leb (a .h .count) 65536 ≡ true
 yes4 c = le-leb _ 65536 (c .if4 .left)
 
 returns : tie.Need-returns
 unfolding headFault
 returns c = let a = c .before .before .args in rw (ne-eqb (a .h .children) (a .h .fields) (c .if1 .taken))
 
-part-in-requires : tie.Need-part-in-requires
-part-in-requires c κs = search needs
-
 returns-2 : tie.Need-returns-2
 unfolding headFault
 returns-2 c = rw (yes2 (c .before .before), sym (c .before .part-in .ensures) ∙ not-true _ (c .if2 .taken))
-
-offsets-in-requires : tie.Need-offsets-in-requires
-offsets-in-requires c κs = search needs
 
 returns-3 : tie.Need-returns-3
 unfolding headFault
@@ -50,9 +46,6 @@ returns-4 c =
     let f = c .before .before in
     let e = f .before .before in
     rw (yes2 (e .before .before), yes3 e, offsets3 f, lt-leb _ 65536 (c .if4 .taken))
-
-offsets-match-requires : tie.Need-offsets-match-requires
-offsets-match-requires c κs = search needs
 
 returns-5 : tie.Need-returns-5
 unfolding headFault
@@ -72,14 +65,5 @@ returns-6 c =
 
 pub head-fault-spec : {M : Type 1} → statement M
 head-fault-spec =
-    tie.close
-    (tie.spec
-    returns
-    part-in-requires
-    returns-2
-    offsets-in-requires
-    returns-3
-    returns-4
-    offsets-match-requires
-    returns-5
-    returns-6)
+    tie.close (tie.spec returns (λ c κs. search needs) returns-2 (λ c κs. search needs) returns-3 returns-4
+    (λ c κs. search needs) returns-5 returns-6)

@@ -2,17 +2,8 @@ use borrow.Author.Needs.{needs}
 use Rattle.array_columns.proofs.questions.offsets_match.Statement.{statement}
 use Rattle.array_columns.proofs.questions.offsets_match.Tie as tie
 
-enum-told : tie.Need-enum-told
-enum-told c = search needs
-
-enum-told-2 : tie.Need-enum-told-2
-enum-told-2 c = search needs
-
-returns : tie.Need-returns
-returns c = search needs
-
 returns-2 : tie.Need-returns-2
 returns-2 c = rw (c .enum-told2 .given .1)
 
 pub offsets-match-spec : {M : Type 1} → statement M
-offsets-match-spec = tie.close (tie.spec enum-told enum-told-2 returns returns-2)
+offsets-match-spec = tie.close (tie.spec (λ c. search needs) (λ c. search needs) (λ c. search needs) returns-2)

@@ -28,39 +28,6 @@ loop-holds c =
     let f = c .args .fields in
     (search needs, search needs, no-fault (c .args .lent) (c .args .n) (c .args .dense), (omega arith, rw (le-ltb f f (omega arith))), λ k l. unseen 256 k)
 
-mul-c : tie.Need-mul-c Inv-loop μ-loop
-mul-c c = search needs
-
-array-copy-out-c : tie.Need-array-copy-out-c Inv-loop μ-loop
-array-copy-out-c c = search needs
-
-entry-of-requires : tie.Need-entry-of-requires Inv-loop μ-loop
-entry-of-requires c κs = search needs
-
-array-read-again : tie.Need-array-read-again Inv-loop μ-loop
-array-read-again c = search needs
-
-array-write-seen : tie.Need-array-write-seen Inv-loop μ-loop
-array-write-seen c = search needs
-
-fault-requires : tie.Need-fault-requires Inv-loop μ-loop
-fault-requires c κs = search needs
-
-least-requires : tie.Need-least-requires Inv-loop μ-loop
-least-requires c κs = search needs
-
-same-id-requires : tie.Need-same-id-requires Inv-loop μ-loop
-same-id-requires c κs = search needs
-
-first-of-requires : tie.Need-first-of-requires Inv-loop μ-loop
-first-of-requires c κs = search needs
-
-add-j : tie.Need-add-j Inv-loop μ-loop
-add-j c = search needs
-
-loop-less : tie.Need-loop-less Inv-loop μ-loop
-loop-less c = search needs
-
 -- the column's entry in the table, and whether it has the id
 entry : (c : tie.After-entry-of Inv-loop μ-loop)
     → let l = c .before .before .before .before in
@@ -94,9 +61,6 @@ loop-again c =
       seen-turn cs (l .loop .j) k (l .loop .seen) (e .entry-of .result) (l .loop .inv .4) (entry e) (omega (arith, e .entry-of .ensures .1)),
     )
 
-no-column-requires : tie.Need-no-column-requires Inv-loop μ-loop
-no-column-requires c κs = search needs
-
 returns : tie.Need-returns Inv-loop μ-loop
 returns c =
     let l = c .before .before .before in
@@ -105,12 +69,6 @@ returns c =
     let p : Placed (a .t1) (toZ w8 (ofZ w8 (a .id))) (a .fields) (a .fields) (l .loop .at) = rw e at (l .loop .inv .3) in
     pass-none (a .lent) (a .n) (a .dense) (a .id) (take (a .fields) (a .t1)) (c .no-column .result) (l .loop .k) (c .no-column .ensures) (rw e at (l .loop .inv .2))
     (rw (toZ-ofZ (l .before .fits .id)) at (none-placed (a .t1) (toZ w8 (ofZ w8 (a .id))) (a .fields) (l .loop .at) p (c .before .if1 .taken)))
-
-mul-c-2 : tie.Need-mul-c-2 Inv-loop μ-loop
-mul-c-2 c = search needs
-
-array-copy-out-c-2 : tie.Need-array-copy-out-c-2 Inv-loop μ-loop
-array-copy-out-c-2 c = search needs
 
 returns-2 : tie.Need-returns-2 Inv-loop μ-loop
 returns-2 c =
@@ -123,25 +81,7 @@ returns-2 c =
 
 pub pass-spec : {M : Type 1} → statement M
 pass-spec =
-    tie.close
-    (tie.spec
-    Inv-loop
-    μ-loop
-    loop-holds
-    mul-c
-    array-copy-out-c
-    entry-of-requires
-    array-read-again
-    array-write-seen
-    fault-requires
-    least-requires
-    same-id-requires
-    first-of-requires
-    add-j
-    loop-less
-    loop-again
-    no-column-requires
-    returns
-    mul-c-2
-    array-copy-out-c-2
-    returns-2)
+    tie.close (tie.spec Inv-loop μ-loop loop-holds (λ c. search needs) (λ c. search needs) (λ c κs. search needs)
+    (λ c. search needs) (λ c. search needs) (λ c κs. search needs) (λ c κs. search needs) (λ c κs. search needs)
+    (λ c κs. search needs) (λ c. search needs) (λ c. search needs) loop-again (λ c κs. search needs) returns
+    (λ c. search needs) (λ c. search needs) returns-2)

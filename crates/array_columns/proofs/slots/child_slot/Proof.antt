@@ -9,12 +9,6 @@ use borrow.Author.Needs.{needs}
 use Rattle.array_columns.proofs.slots.child_slot.Statement.{statement}
 use Rattle.array_columns.proofs.slots.child_slot.Tie as tie
 
-enum-told : tie.Need-enum-told
-enum-told c = search needs
-
-enum-told-2 : tie.Need-enum-told-2
-enum-told-2 c = search needs
-
 add-result : tie.Need-add-result
 add-result c = let h = c .before .before .pre (c .enum-told2 .given .1) in omega (arith, h .0)
 
@@ -29,9 +23,6 @@ cast-result c =
     let s = c .before .before .before in
     offset-casts (getD (s .args .offsets .now) (s .args .start + s .args .i) (pos 0)) (c .result .given) (s .pre (c .before .enum-told2 .given .1) .1)
 
-returns : tie.Need-returns
-returns c = search needs
-
 returns-2 : tie.Need-returns-2
 returns-2 c =
     let a = c .before .before .before .args in
@@ -40,13 +31,5 @@ returns-2 c =
 
 pub child-slot-spec : {M : Type 1} → statement M
 child-slot-spec =
-    tie.close
-    (tie.spec
-    enum-told
-    enum-told-2
-    add-result
-    mul-result
-    shared-slice-copy-out-result
-    cast-result
-    returns
-    returns-2)
+    tie.close (tie.spec (λ c. search needs) (λ c. search needs) add-result mul-result shared-slice-copy-out-result
+    cast-result (λ c. search needs) returns-2)

@@ -22,27 +22,6 @@ loop-holds c =
     let full : length cs ≡ 128 = c .good .0 .1 .0 .1 in
     (omega arith, refl, table-none 128 (λ k c. k) cs (c .args .fields) (omega arith))
 
-sub-j : tie.Need-sub-j Inv-loop μ-loop
-sub-j c = omega arith
-
-mul-c : tie.Need-mul-c Inv-loop μ-loop
-mul-c c = omega arith
-
-array-copy-out-c : tie.Need-array-copy-out-c Inv-loop μ-loop
-array-copy-out-c c = omega arith
-
-cast-table : tie.Need-cast-table Inv-loop μ-loop
-cast-table c = omega arith
-
-entry-of-requires : tie.Need-entry-of-requires Inv-loop μ-loop
-entry-of-requires c κs = search needs
-
-array-write-table : tie.Need-array-write-table Inv-loop μ-loop
-array-write-table c = omega arith
-
-loop-less : tie.Need-loop-less Inv-loop μ-loop
-loop-less c = omega arith
-
 loop-again : tie.Need-loop-again Inv-loop μ-loop
 loop-again c =
     let l = c .before .before .before .before in
@@ -64,17 +43,5 @@ returns c =
 
 pub places-by-id-spec : {M : Type 1} → statement M
 places-by-id-spec =
-    tie.close
-    (tie.spec
-    Inv-loop
-    μ-loop
-    loop-holds
-    sub-j
-    mul-c
-    array-copy-out-c
-    cast-table
-    entry-of-requires
-    array-write-table
-    loop-less
-    loop-again
-    returns)
+    tie.close (tie.spec Inv-loop μ-loop loop-holds (λ c. omega arith) (λ c. omega arith) (λ c. omega arith)
+    (λ c. omega arith) (λ c κs. search needs) (λ c. omega arith) (λ c. omega arith) loop-again returns)

@@ -4,12 +4,6 @@ use borrow.Author.Needs.{needs}
 use Rattle.batch_description.proofs.describe.describe.Statement.{statement}
 use Rattle.batch_description.proofs.describe.describe.Tie as tie
 
-sizes-of-requires : tie.Need-sizes-of-requires
-sizes-of-requires c κs = search needs
-
-slice-aggregate-order-of : tie.Need-slice-aggregate-order-of
-slice-aggregate-order-of c = search needs
-
 order-of-requires : tie.Need-order-of-requires
 order-of-requires c κs =
     let s = c .before .before .before in
@@ -29,5 +23,4 @@ returns c =
 
 pub describe-spec : {M : Type 1} → statement M
 describe-spec =
-    tie.close
-    (tie.spec sizes-of-requires slice-aggregate-order-of order-of-requires fill-requires returns)
+    tie.close (tie.spec (λ c κs. search needs) (λ c. search needs) order-of-requires fill-requires returns)

@@ -8,19 +8,10 @@ use Rattle.batch_description.proofs.describe.described_column.Tie as ti
 mul-t5 : tie.Need-mul-t5
 mul-t5 c = omega (arith, small-product (c .args .k) (c .args .capacity) (omega arith) (omega arith))
 
-words-for-requires : tie.Need-words-for-requires
-words-for-requires c κs = search needs
-
 mul-t7 : tie.Need-mul-t7
 mul-t7 c =
     let w = words-small (c .before .args .capacity) (omega arith) in
     omega (arith, small-product (c .before .args .k) (c .words-for .result) (omega arith) (omega (arith, c .words-for .ensures)))
-
-mul-t8 : tie.Need-mul-t8
-mul-t8 c = search needs
-
-cast-t9 : tie.Need-cast-t9
-cast-t9 c = search needs
 
 returns : tie.Need-returns
 returns c =
@@ -28,4 +19,5 @@ returns c =
     column-is (a .c) (a .k) (a .capacity) (c .words-for .result) (omega arith) (c .words-for .ensures)
 
 pub described-column-spec : {M : Type 1} → statement M
-described-column-spec = tie.close (tie.spec mul-t5 words-for-requires mul-t7 mul-t8 cast-t9 returns)
+described-column-spec =
+    tie.close (tie.spec mul-t5 (λ c κs. search needs) mul-t7 (λ c. search needs) (λ c. search needs) returns)

@@ -13,9 +13,6 @@ Inv-loop h cs order out₀ i₀ i-end out i =
 abbrev μ-loop : tie.MeasureT-loop
 μ-loop h cs order out₀ i₀ i-end out i = i-end - i
 
-blank-requires : tie.Need-blank-requires Inv-loop μ-loop
-blank-requires c κs = tt
-
 loop-holds : tie.Need-loop-holds Inv-loop μ-loop
 loop-holds c =
     let a = c .before .args in
@@ -50,12 +47,6 @@ mul-t17 c = let f = c .before .before .before .before .before .pre .few in omega
 element-set-from-out : tie.Need-element-set-from-out Inv-loop μ-loop
 element-set-from-out c = let f = c .before .before .before .before .before .pre .few in omega arith
 
-add-i : tie.Need-add-i Inv-loop μ-loop
-add-i c = omega arith
-
-loop-less : tie.Need-loop-less Inv-loop μ-loop
-loop-less c = omega arith
-
 loop-again : tie.Need-loop-again Inv-loop μ-loop
 loop-again c =
     let l = c .before .before .before in
@@ -75,20 +66,5 @@ returns c =
 
 pub fill-spec : {M : Type 1} → statement M
 fill-spec =
-    tie.close
-    (tie.spec
-    Inv-loop
-    μ-loop
-    blank-requires
-    loop-holds
-    array-read-k
-    cast-k
-    mul-c
-    array-copy-out-c
-    described-column-requires
-    mul-t17
-    element-set-from-out
-    add-i
-    loop-less
-    loop-again
-    returns)
+    tie.close (tie.spec Inv-loop μ-loop (λ c κs. tt) loop-holds array-read-k cast-k mul-c array-copy-out-c
+    described-column-requires mul-t17 element-set-from-out (λ c. omega arith) (λ c. omega arith) loop-again returns)

@@ -41,21 +41,12 @@ returns c =
     let l = i .loop in
     sym (ap (foundIn (a .t1)) (first-here (a .n) (hasName (a .t1) (a .names .now) (a .name .now)) (l .k) (omega arith) (l .inv .1) (sym (c .before .goes-by .ensures) ∙ c .if1 .taken)))
 
-add-k : tie.Need-add-k Inv-loop μ-loop
-add-k c = omega arith
-
-loop-less : tie.Need-loop-less Inv-loop μ-loop
-loop-less c = omega arith
-
 loop-again : tie.Need-loop-again Inv-loop μ-loop
 loop-again c =
     let i = c .before .before .before .before in
     let a = i .before .before .before .args in
     let l = i .loop in
     (omega arith, first-more (l .k) (hasName (a .t1) (a .names .now) (a .name .now)) (l .inv .1) (sym (c .before .goes-by .ensures) ∙ c .if1 .left))
-
-none-found-requires : tie.Need-none-found-requires Inv-loop μ-loop
-none-found-requires c κs = search needs
 
 returns-2 : tie.Need-returns-2 Inv-loop μ-loop
 returns-2 c =
@@ -66,17 +57,5 @@ returns-2 c =
 
 pub look-spec : {M : Type 1} → statement M
 look-spec =
-    tie.close
-    (tie.spec
-    Inv-loop
-    μ-loop
-    loop-holds
-    mul-c
-    array-copy-out-c
-    goes-by-requires
-    returns
-    add-k
-    loop-less
-    loop-again
-    none-found-requires
-    returns-2)
+    tie.close (tie.spec Inv-loop μ-loop loop-holds mul-c array-copy-out-c goes-by-requires returns (λ c. omega arith)
+    (λ c. omega arith) loop-again (λ c κs. search needs) returns-2)

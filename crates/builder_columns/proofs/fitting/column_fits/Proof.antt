@@ -4,9 +4,6 @@ use borrow.Author.Tests.{le-leb, lt-leb}
 use Rattle.builder_columns.proofs.fitting.column_fits.Statement.{statement}
 use Rattle.builder_columns.proofs.fitting.column_fits.Tie as tie
 
-cast-slots : tie.Need-cast-slots
-cast-slots c = search needs
-
 returns : tie.Need-returns
 returns c = simp (lt-leb _ _ (c .if1 .taken))
 
@@ -16,9 +13,6 @@ returns-2 c = simp (le-leb _ _ (c .before .if1 .left), lt-leb _ _ (c .if2 .taken
 enum-told : tie.Need-enum-told
 enum-told c = search needs
 
-enum-told-2 : tie.Need-enum-told-2
-enum-told-2 c = search needs
-
 returns-3 : tie.Need-returns-3
 returns-3 c = simp (le-leb _ _ (c .before .before .before .if1 .left), le-leb _ _ (c .before .before .if2 .left), c .enum-told .given .1)
 
@@ -27,4 +21,4 @@ returns-4 c = simp (le-leb _ _ (c .before .before .before .if1 .left), le-leb _ 
 
 pub column-fits-spec : {M : Type 1} → statement M
 column-fits-spec =
-    tie.close (tie.spec cast-slots returns returns-2 enum-told enum-told-2 returns-3 returns-4)
+    tie.close (tie.spec (λ c. search needs) returns returns-2 enum-told (λ c. search needs) returns-3 returns-4)

@@ -26,26 +26,11 @@ abbrev μ-loop : tie.MeasureT-loop
 loop-holds : tie.Need-loop-holds Inv-loop μ-loop
 loop-holds c = (omega arith, refl)
 
-mul-column-fits : tie.Need-mul-column-fits Inv-loop μ-loop
-mul-column-fits c = search needs
-
-array-copy-out-column-fits : tie.Need-array-copy-out-column-fits Inv-loop μ-loop
-array-copy-out-column-fits c = search needs
-
-column-fits-requires : tie.Need-column-fits-requires Inv-loop μ-loop
-column-fits-requires c κs = search needs
-
 returns : tie.Need-returns Inv-loop μ-loop
 returns c =
     let i = c .before .before .before .before in
     let a = i .before .args in
     sym (every-no (a .n) (test (a .t1) (a .layout) (a .len)) (i .loop .k) (omega arith) (denied (c .before .column-fits .ensures) (c .if1 .taken)))
-
-add-k : tie.Need-add-k Inv-loop μ-loop
-add-k c = omega arith
-
-loop-less : tie.Need-loop-less Inv-loop μ-loop
-loop-less c = omega arith
 
 loop-again : tie.Need-loop-again Inv-loop μ-loop
 loop-again c =
@@ -61,16 +46,5 @@ returns-2 c =
 
 pub columns-fit-spec : {M : Type 1} → statement M
 columns-fit-spec =
-    tie.close
-    (tie.spec
-    Inv-loop
-    μ-loop
-    loop-holds
-    mul-column-fits
-    array-copy-out-column-fits
-    column-fits-requires
-    returns
-    add-k
-    loop-less
-    loop-again
-    returns-2)
+    tie.close (tie.spec Inv-loop μ-loop loop-holds (λ c. search needs) (λ c. search needs) (λ c κs. search needs)
+    returns (λ c. omega arith) (λ c. omega arith) loop-again returns-2)

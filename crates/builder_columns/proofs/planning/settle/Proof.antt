@@ -8,78 +8,54 @@ use Rattle.builder_columns.proofs.Plans.{first-slots-le, known-18, know
 use Rattle.builder_columns.proofs.planning.settle.Statement.{statement}
 use Rattle.builder_columns.proofs.planning.settle.Tie as tie
 
-same-kind-requires : tie.Need-same-kind-requires
-same-kind-requires c κs = search needs
-
-refused-requires : tie.Need-refused-requires
-refused-requires c κs = search needs
-
 returns : tie.Need-returns
 returns c =
+    let if1 = c .before .before .before .before .if1 in
     let a = c .before .before .before .before .before .before .args in
-    c .refused .ensures ∙ known-18 (a .b) (a .f) (a .name .now) (a .kind) (c .before .before .before .before .if1 .taken) (denied (c .before .before .same-kind .ensures) (c .before .if2 .taken))
-
-refused-requires-2 : tie.Need-refused-requires-2
-refused-requires-2 c κs = search needs
+    c .refused .ensures ∙ known-18 (a .b) (a .f) (a .name .now) (a .kind) (if1 .taken) (denied (c .before .before .same-kind .ensures) (c .before .if2 .taken))
 
 returns-2 : tie.Need-returns-2
 returns-2 c =
+    let if1 = c .before .before .before .before .before .before .if1 in
+    let same-kind = c .before .before .before .before .same-kind in
     let a = c .before .before .before .before .before .before .before .before .args in
     c .refused2 .ensures
-    ∙ known-19 (a .b) (a .f) (a .name .now) (a .kind) (c .before .before .before .before .before .before .if1 .taken) (granted (c .before .before .before .before .same-kind .ensures) (c .before .before .before .if2 .left)) (c .before .if3 .taken)
+    ∙ known-19 (a .b) (a .f) (a .name .now) (a .kind) (if1 .taken) (granted (same-kind .ensures) (c .before .before .before .if2 .left)) (c .before .if3 .taken)
 
 returns-3 : tie.Need-returns-3
 returns-3 c =
+    let if1 = c .before .before .before .before .before .if1 in
     let a = c .before .before .before .before .before .before .before .args in
-    known-yes (a .b) (a .f) (a .name .now) (a .kind) (c .before .before .before .before .before .if1 .taken) (granted (c .before .before .before .same-kind .ensures) (c .before .before .if2 .left)) (c .if3 .left)
-
-refused-requires-3 : tie.Need-refused-requires-3
-refused-requires-3 c κs = search needs
+    known-yes (a .b) (a .f) (a .name .now) (a .kind) (if1 .taken) (granted (c .before .before .before .same-kind .ensures) (c .before .before .if2 .left)) (c .if3 .left)
 
 returns-4 : tie.Need-returns-4
 returns-4 c =
     let a = c .before .before .before .before .before .args in
     c .refused3 .ensures ∙ new-19 (a .b) (a .f) (a .name .now) (a .kind) (c .before .before .before .if1 .left) (c .before .if4 .taken)
 
-refused-requires-4 : tie.Need-refused-requires-4
-refused-requires-4 c κs = search needs
-
 returns-5 : tie.Need-returns-5
 returns-5 c =
+    let if1 = c .before .before .before .before .before .if1 in
     let a = c .before .before .before .before .before .before .before .args in
-    c .refused4 .ensures ∙ new-20 (a .b) (a .f) (a .name .now) (a .kind) (c .before .before .before .before .before .if1 .left) (c .before .before .before .if4 .left) (c .before .if5 .taken)
-
-if-sparse-requires : tie.Need-if-sparse-requires
-if-sparse-requires c κs = search needs
+    c .refused4 .ensures ∙ new-20 (a .b) (a .f) (a .name .now) (a .kind) (if1 .left) (c .before .before .before .if4 .left) (c .before .if5 .taken)
 
 opened-column-requires : tie.Need-opened-column-requires
-opened-column-requires c κs = let b = c .before .before .before .before .before .before .before .args .b in (search needs, omega (arith, c .if-sparse .ensures, first-slots-le (b .layout) (b .len), c .before .before .before .before .before .before .before .pre .0))
-
-add-t13 : tie.Need-add-t13
-add-t13 c = search needs
+opened-column-requires c κs =
+    let start = c .before .before .before .before .before .before .before in
+    let b = start .args .b in
+    (search needs, omega (arith, c .if-sparse .ensures, first-slots-le (b .layout) (b .len), start .pre .0))
 
 returns-6 : tie.Need-returns-6
 returns-6 c =
+    let if1 = c .before .before .before .before .before .before .before .if1 in
+    let if4 = c .before .before .before .before .before .if4 in
     let a = c .before .before .before .before .before .before .before .before .before .args in
     let o = c .before .opened-column in
-    new-yes (a .b) (a .f) (a .name .now) (a .kind) (c .before .before .before .before .before .before .before .if1 .left) (o .result)
-    (o .ensures ∙ ap (opened (a .name .now) (a .kind)) (c .before .before .if-sparse .ensures)) (c .before .before .before .before .before .if4 .left) (c .before .before .before .if5 .left)
+    new-yes (a .b) (a .f) (a .name .now) (a .kind) (if1 .left) (o .result)
+    (o .ensures ∙ ap (opened (a .name .now) (a .kind)) (c .before .before .if-sparse .ensures)) (if4 .left) (c .before .before .before .if5 .left)
 
 pub settle-spec : {M : Type 1} → statement M
 settle-spec =
-    tie.close
-    (tie.spec
-    same-kind-requires
-    refused-requires
-    returns
-    refused-requires-2
-    returns-2
-    returns-3
-    refused-requires-3
-    returns-4
-    refused-requires-4
-    returns-5
-    if-sparse-requires
-    opened-column-requires
-    add-t13
-    returns-6)
+    tie.close (tie.spec (λ c κs. search needs) (λ c κs. search needs) returns (λ c κs. search needs) returns-2
+    returns-3 (λ c κs. search needs) returns-4 (λ c κs. search needs) returns-5 (λ c κs. search needs)
+    opened-column-requires (λ c. search needs) returns-6)

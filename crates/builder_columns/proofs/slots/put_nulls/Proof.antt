@@ -23,13 +23,10 @@ loop-holds : tie.Need-loop-holds Inv-loop μ-loop
 loop-holds c = (omega arith, refl, refl, refl, refl)
 
 put-slot-requires : tie.Need-put-slot-requires Inv-loop μ-loop
-put-slot-requires c κs = let l = c .before .before .before .loop .inv in (room-kept (c .before .before .before .before .before .before .pre .0) (l .3) (l .4), omega arith)
-
-add-s : tie.Need-add-s Inv-loop μ-loop
-add-s c = omega arith
-
-loop-less : tie.Need-loop-less Inv-loop μ-loop
-loop-less c = omega arith
+put-slot-requires c κs =
+    let start = c .before .before .before .before .before .before in
+    let l = c .before .before .before .loop .inv in
+    (room-kept (start .pre .0) (l .3) (l .4), omega arith)
 
 loop-again : tie.Need-loop-again Inv-loop μ-loop
 loop-again c =
@@ -56,15 +53,5 @@ returns c =
 
 pub put-nulls-spec : {M : Type 1} → statement M
 put-nulls-spec =
-    tie.close
-    (tie.spec
-    Inv-loop
-    μ-loop
-    loop-holds
-    put-slot-requires
-    add-s
-    loop-less
-    loop-again
-    same-length
-    same-length-2
-    returns)
+    tie.close (tie.spec Inv-loop μ-loop loop-holds put-slot-requires (λ c. omega arith) (λ c. omega arith) loop-again
+    same-length same-length-2 returns)

@@ -27,17 +27,12 @@ abbrev μ-loop : tie.MeasureT-loop
 loop-holds : tie.Need-loop-holds Inv-loop μ-loop
 loop-holds c = (omega arith, refl, refl, refl, refl)
 
-in-column-requires : tie.Need-in-column-requires Inv-loop μ-loop
-in-column-requires c κs = search needs
-
 put-slot-requires : tie.Need-put-slot-requires Inv-loop μ-loop
-put-slot-requires c κs = let l = c .before .before .before .before .loop .inv in (room-upto _ _ _ _ (room-kept (c .before .before .before .before .before .before .before .pre .0) (l .3) (l .4)) (c .before .before .before .before .loop .k) (c .before .before .before .loop-test .taken), c .before .before .before .before .before .before .before .pre .1)
-
-add-k : tie.Need-add-k Inv-loop μ-loop
-add-k c = omega arith
-
-loop-less : tie.Need-loop-less Inv-loop μ-loop
-loop-less c = omega arith
+put-slot-requires c κs =
+    let start = c .before .before .before .before .before .before .before in
+    let turn = c .before .before .before .before .loop in
+    let l = turn .inv in
+    (room-upto _ _ _ _ (room-kept (start .pre .0) (l .3) (l .4)) (turn .k) (c .before .before .before .loop-test .taken), start .pre .1)
 
 loop-again : tie.Need-loop-again Inv-loop μ-loop
 loop-again c =
@@ -69,16 +64,5 @@ returns c =
 
 pub put-row-spec : {M : Type 1} → statement M
 put-row-spec =
-    tie.close
-    (tie.spec
-    Inv-loop
-    μ-loop
-    loop-holds
-    in-column-requires
-    put-slot-requires
-    add-k
-    loop-less
-    loop-again
-    same-length
-    same-length-2
-    returns)
+    tie.close (tie.spec Inv-loop μ-loop loop-holds (λ c κs. search needs) put-slot-requires (λ c. omega arith)
+    (λ c. omega arith) loop-again same-length same-length-2 returns)

@@ -15,62 +15,32 @@ use Rattle.builder_columns.proofs.store.put_slots.Tie as tie
 enum-told : tie.Need-enum-told
 enum-told c = search needs
 
-put-sparse-requires : tie.Need-put-sparse-requires
-put-sparse-requires c κs = search needs
-
-enum-told-2 : tie.Need-enum-told-2
-enum-told-2 c = search needs
-
-cast-put-slot : tie.Need-cast-put-slot
-cast-put-slot c = search needs
-
 put-slot-requires : tie.Need-put-slot-requires
 put-slot-requires c κs = let a = c .before .before .before .before .before .before .before .before .args in let s = c .before .before .before .before .before .before .before .before .pre in (room-upto _ _ _ _ (s .0) (a .p .id) (s .2), omega arith)
 
-same-length : tie.Need-same-length
-same-length c = search needs
-
-same-length-2 : tie.Need-same-length-2
-same-length-2 c = search needs
-
 returns : tie.Need-returns
 returns c =
+    let enum-told = c .before .before .before .before .before .before .before .enum-told in
     let a = c .before .before .before .before .before .before .before .before .before .before .before .args in
     let v = someIf (a .present) (a .word) in
     let q = c .before .before .before .before .put-sparse in
-    let e = sym (c .before .before .before .before .before .before .before .enum-told .given .1) in (
+    let e = sym (enum-told .given .1) in (
       q .ensures .0 ∙ ap (λ (l : Layout). puts putValue (a .capacity) (a .values .now) (putsFor l (a .p) (a .len) v)) e,
       q .ensures .1 ∙ ap (λ (l : Layout). puts putBit (64 * wordsFor (a .capacity)) (a .masks .now) (putsFor l (a .p) (a .len) v)) e,
     )
 
-same-length-3 : tie.Need-same-length-3
-same-length-3 c = search needs
-
-same-length-4 : tie.Need-same-length-4
-same-length-4 c = search needs
-
 returns-2 : tie.Need-returns-2
 returns-2 c =
+    let enum-told2 = c .before .before .before .before .before .before .before .before .before .enum-told2 in
     let a = c .before .before .before .before .before .before .before .before .before .before .before .before .before .args in
     let v = someIf (a .present) (a .word) in
     let q = c .before .before .before .before .put-slot in
-    let e = sym (c .before .before .before .before .before .before .before .before .before .enum-told2 .given .1) in (
+    let e = sym (enum-told2 .given .1) in (
       q .ensures .0 ∙ ap (λ (l : Layout). puts putValue (a .capacity) (a .values .now) (putsFor l (a .p) (a .len) v)) e,
       q .ensures .1 ∙ ap (λ (l : Layout). puts putBit (64 * wordsFor (a .capacity)) (a .masks .now) (putsFor l (a .p) (a .len) v)) e,
     )
 
 pub put-slots-spec : {M : Type 1} → statement M
 put-slots-spec =
-    tie.close
-    (tie.spec
-    enum-told
-    put-sparse-requires
-    enum-told-2
-    cast-put-slot
-    put-slot-requires
-    same-length
-    same-length-2
-    returns
-    same-length-3
-    same-length-4
-    returns-2)
+    tie.close (tie.spec enum-told (λ c κs. search needs) (λ c. search needs) (λ c. search needs) put-slot-requires
+    (λ c. search needs) (λ c. search needs) returns (λ c. search needs) (λ c. search needs) returns-2)

@@ -11,24 +11,12 @@ use Rattle.builder_columns.proofs.Putting.{puts-two, room-upto, cond-le
 use Rattle.builder_columns.proofs.store.put_sparse.Statement.{statement}
 use Rattle.builder_columns.proofs.store.put_sparse.Tie as tie
 
-blanks-requires : tie.Need-blanks-requires
-blanks-requires c κs = search needs
-
 put-nulls-requires : tie.Need-put-nulls-requires
 put-nulls-requires c κs =
     let a = c .before .before .before .before .before .args in
     let s = c .before .before .before .before .before .pre in
     let n = cond-le (a .p .fresh) (a .len) in
     (room-upto _ _ _ _ (s .0) (a .p .id) (s .2), omega (arith, c .blanks .ensures))
-
-put-row-requires : tie.Need-put-row-requires
-put-row-requires c κs = search needs
-
-same-length : tie.Need-same-length
-same-length c = search needs
-
-same-length-2 : tie.Need-same-length-2
-same-length-2 c = search needs
 
 returns : tie.Need-returns
 returns c =
@@ -45,11 +33,5 @@ returns c =
 
 pub put-sparse-spec : {M : Type 1} → statement M
 put-sparse-spec =
-    tie.close
-    (tie.spec
-    blanks-requires
-    put-nulls-requires
-    put-row-requires
-    same-length
-    same-length-2
-    returns)
+    tie.close (tie.spec (λ c κs. search needs) put-nulls-requires (λ c κs. search needs) (λ c. search needs)
+    (λ c. search needs) returns)

@@ -9,17 +9,8 @@ use mir.ValLaws.{toZ-pos}
 use Rattle.builder_columns.proofs.store.put_type_id.Statement.{statement}
 use Rattle.builder_columns.proofs.store.put_type_id.Tie as tie
 
-cast-type-ids : tie.Need-cast-type-ids
-cast-type-ids c = search needs
-
-slice-set-from-type-ids : tie.Need-slice-set-from-type-ids
-slice-set-from-type-ids c = search needs
-
-same-length : tie.Need-same-length
-same-length c = search needs
-
 returns : tie.Need-returns
 returns c = let a = c .args in ap (λ (z : ℤ). set (a .type-ids .now) (a .at) z) (toZ-pos w8 (a .id) (omega arith))
 
 pub put-type-id-spec : {M : Type 1} → statement M
-put-type-id-spec = tie.close (tie.spec cast-type-ids slice-set-from-type-ids same-length returns)
+put-type-id-spec = tie.close (tie.spec (λ c. search needs) (λ c. search needs) (λ c. search needs) returns)

@@ -7,32 +7,17 @@ use Rattle.decimal.proofs.digits.digit.Tie as tie
 returns : tie.Need-returns
 returns c = other-1 _ (c .if1 .taken)
 
-cast-result : tie.Need-cast-result
-cast-result c = search needs
-
 returns-2 : tie.Need-returns-2
 returns-2 c = digit-1 _ (omega arith) (omega arith)
 
 returns-3 : tie.Need-returns-3
 returns-3 c = other-2 _ (omega arith) (omega arith)
 
-sub-result : tie.Need-sub-result
-sub-result c = search needs
-
-cast-result-2 : tie.Need-cast-result-2
-cast-result-2 c = search needs
-
 returns-4 : tie.Need-returns-4
 returns-4 c = digit-2 _ (omega arith) (omega arith)
 
 returns-5 : tie.Need-returns-5
 returns-5 c = other-3 _ (omega arith) (omega arith)
-
-sub-result-2 : tie.Need-sub-result-2
-sub-result-2 c = search needs
-
-cast-result-3 : tie.Need-cast-result-3
-cast-result-3 c = search needs
 
 returns-6 : tie.Need-returns-6
 returns-6 c = digit-3 _ (omega arith) (omega arith)
@@ -42,17 +27,5 @@ returns-7 c = other-4 _ (omega arith)
 
 pub digit-spec : {M : Type 1} → statement M
 digit-spec =
-    tie.close
-    (tie.spec
-    returns
-    cast-result
-    returns-2
-    returns-3
-    sub-result
-    cast-result-2
-    returns-4
-    returns-5
-    sub-result-2
-    cast-result-3
-    returns-6
-    returns-7)
+    tie.close (tie.spec returns (λ c. search needs) returns-2 returns-3 (λ c. search needs) (λ c. search needs)
+    returns-4 returns-5 (λ c. search needs) (λ c. search needs) returns-6 returns-7)

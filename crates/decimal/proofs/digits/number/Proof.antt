@@ -16,26 +16,36 @@ abbrev μ-loop : tie.MeasureT-loop
 loop-holds : tie.Need-loop-holds Inv-loop μ-loop
 loop-holds c = (refl, omega arith, omega arith, refl)
 
-shared-slice-read-digit : tie.Need-shared-slice-read-digit Inv-loop μ-loop
-shared-slice-read-digit c = omega arith
-
-digit-requires : tie.Need-digit-requires Inv-loop μ-loop
-digit-requires c κs = tt
-
 returns : tie.Need-returns Inv-loop μ-loop
-returns c = turn-other _ _ (c .before .before .before .before .loop .i) _ _ (c .before .before .before .before .before .before .args .text .now) _ (omega arith) (c .before .digit .ensures) (c .before .before .before .before .loop .inv .3) (c .if1 .taken)
+returns c =
+    let start = c .before .before .before .before .before .before in
+    let turn = c .before .before .before .before .loop in
+    turn-other _ _ (turn .i) _ _ (start .args .text .now) _ (omega arith) (c .before .digit .ensures) (turn .inv .3) (c .if1 .taken)
 
 returns-2 : tie.Need-returns-2 Inv-loop μ-loop
-returns-2 c = turn-below _ _ (c .before .before .before .before .before .loop .i) _ _ (c .before .before .before .before .before .before .before .args .text .now) _ (omega arith) (c .before .before .digit .ensures) (c .before .before .before .before .before .loop .inv .3) (omega (arith, c .before .before .before .before .before .before .before .pre)) (omega arith) (c .if2 .taken)
+returns-2 c =
+    let start = c .before .before .before .before .before .before .before in
+    let turn = c .before .before .before .before .before .loop in
+    turn-below _ _ (turn .i) _ _ (start .args .text .now) _ (omega arith) (c .before .before .digit .ensures) (turn .inv .3) (omega (arith, start .pre)) (omega arith) (c .if2 .taken)
 
 div-if3 : tie.Need-div-if3 Inv-loop μ-loop
-div-if3 c = omega (arith, c .before .before .before .before .before .before .before .pre)
+div-if3 c =
+    let start = c .before .before .before .before .before .before .before in
+    omega (arith, start .pre)
 
 returns-3 : tie.Need-returns-3 Inv-loop μ-loop
-returns-3 c = turn-above _ _ (c .before .before .before .before .before .before .loop .i) _ _ (c .before .before .before .before .before .before .before .before .args .text .now) _ (omega arith) (c .before .before .before .digit .ensures) (c .before .before .before .before .before .before .loop .inv .3) (omega (arith, c .before .before .before .before .before .before .before .before .pre)) (omega arith) (no-room _ _ _ _ (omega (arith, c .before .before .before .before .before .before .before .before .pre)) (c .if3 .taken))
+returns-3 c =
+    let start = c .before .before .before .before .before .before .before .before in
+    let turn = c .before .before .before .before .before .before .loop in
+    turn-above _ _ (turn .i) _ _ (start .args .text .now) _ (omega arith) (c .before .before .before .digit .ensures) (turn .inv .3) (omega (arith, start .pre)) (omega arith) (no-room _ _ _ _ (omega (arith, start .pre)) (c .if3 .taken))
 
-fits-room : (c : tie.Else3 Inv-loop μ-loop) → c .before .before .before .before .before .before .before .before .args .base * c .before .before .before .before .before .before .loop .n + c .before .before .before .digit .result ≤ c .before .before .before .before .before .before .before .before .args .most
-fits-room c = room _ _ _ _ (omega (arith, c .before .before .before .before .before .before .before .before .pre)) (omega arith) (omega arith)
+fits-room : (c : tie.Else3 Inv-loop μ-loop) →
+    let a = c .before .before .before .before .before .before .before .before .args in
+    let turn = c .before .before .before .before .before .before .loop in
+    a .base * turn .n + c .before .before .before .digit .result ≤ a .most
+fits-room c =
+    let start = c .before .before .before .before .before .before .before .before in
+    room _ _ _ _ (omega (arith, start .pre)) (omega arith) (omega arith)
 
 mul-n : tie.Need-mul-n Inv-loop μ-loop
 mul-n c = let h = fits-room c in omega arith
@@ -43,34 +53,16 @@ mul-n c = let h = fits-room c in omega arith
 add-n : tie.Need-add-n Inv-loop μ-loop
 add-n c = let h = fits-room c in omega arith
 
-add-i : tie.Need-add-i Inv-loop μ-loop
-add-i c = omega arith
-
-loop-less : tie.Need-loop-less Inv-loop μ-loop
-loop-less c = omega arith
-
 loop-again : tie.Need-loop-again Inv-loop μ-loop
-loop-again c = (refl, omega arith, fits-room c, turn-digit _ _ (c .before .before .before .before .before .before .loop .i) _ _ (c .before .before .before .before .before .before .before .before .args .text .now) _ (omega arith) (c .before .before .before .digit .ensures) (c .before .before .before .before .before .before .loop .inv .3) (omega arith))
+loop-again c =
+    let start = c .before .before .before .before .before .before .before .before in
+    let turn = c .before .before .before .before .before .before .loop in
+    (refl, omega arith, fits-room c, turn-digit _ _ (turn .i) _ _ (start .args .text .now) _ (omega arith) (c .before .before .before .digit .ensures) (turn .inv .3) (omega arith))
 
 returns-4 : tie.Need-returns-4 Inv-loop μ-loop
 returns-4 c = turn-end _ _ (c .before .loop .i) _ (c .before .before .before .args .text .now) _ (omega arith) (omega arith) (c .before .loop .inv .3)
 
 pub number-spec : {M : Type 1} → statement M
 number-spec =
-    tie.close
-    (tie.spec
-    Inv-loop
-    μ-loop
-    loop-holds
-    shared-slice-read-digit
-    digit-requires
-    returns
-    returns-2
-    div-if3
-    returns-3
-    mul-n
-    add-n
-    add-i
-    loop-less
-    loop-again
-    returns-4)
+    tie.close (tie.spec Inv-loop μ-loop loop-holds (λ c. omega arith) (λ c κs. tt) returns returns-2 div-if3 returns-3
+    mul-n add-n (λ c. omega arith) (λ c. omega arith) loop-again returns-4)

@@ -7,18 +7,11 @@ use Rattle.decimal.proofs.hex.is_hex.Tie as tie
 returns : tie.Need-returns
 returns c = hex-short _ (c .if1 .taken)
 
-shared-slice-read-if2 : tie.Need-shared-slice-read-if2
-shared-slice-read-if2 c = search needs
-
 returns-2 : tie.Need-returns-2
 returns-2 c = hex-first _ (omega arith) (c .if2 .taken)
-
-shared-slice-read-result : tie.Need-shared-slice-read-result
-shared-slice-read-result c = search needs
 
 returns-3 : tie.Need-returns-3
 returns-3 c = hex-second _ (omega arith) (c .before .if2 .left)
 
 pub is-hex-spec : {M : Type 1} → statement M
-is-hex-spec =
-    tie.close (tie.spec returns shared-slice-read-if2 returns-2 shared-slice-read-result returns-3)
+is-hex-spec = tie.close (tie.spec returns (λ c. search needs) returns-2 (λ c. search needs) returns-3)

@@ -5,9 +5,6 @@ use borrow.Author.Needs.{needs}
 use Rattle.decimal.proofs.hex.read_hex.Statement.{statement}
 use Rattle.decimal.proofs.hex.read_hex.Tie as tie
 
-is-hex-requires : tie.Need-is-hex-requires
-is-hex-requires c κs = search needs
-
 returns : tie.Need-returns
 returns c = hex-none _ _ _ (c .before .is-hex .ensures) (not-true _ (c .if1 .taken))
 
@@ -23,25 +20,12 @@ sub-number c = hex-long _ _ (c .before .before .is-hex .ensures) (not-false _ (c
 part-number-start : tie.Need-part-number-start
 part-number-start c = hex-long _ _ (c .before .before .is-hex .ensures) (not-false _ (c .before .if1 .left))
 
-part-number-end : tie.Need-part-number-end
-part-number-end c = search needs
-
-number-requires : tie.Need-number-requires
-number-requires c κs = search needs
-
 returns-3 : tie.Need-returns-3
-returns-3 c = c .number .ensures ∙ hex-digits _ _ _ (c .before .before .before .before .is-hex .ensures) (not-false _ (c .before .before .before .if1 .left)) (c .before .before .if2 .left)
+returns-3 c =
+    let is-hex = c .before .before .before .before .is-hex in
+    c .number .ensures ∙ hex-digits _ _ _ (is-hex .ensures) (not-false _ (c .before .before .before .if1 .left)) (c .before .before .if2 .left)
 
 pub read-hex-spec : {M : Type 1} → statement M
 read-hex-spec =
-    tie.close
-    (tie.spec
-    is-hex-requires
-    returns
-    sub-if2
-    returns-2
-    sub-number
-    part-number-start
-    part-number-end
-    number-requires
-    returns-3)
+    tie.close (tie.spec (λ c κs. search needs) returns sub-if2 returns-2 sub-number part-number-start
+    (λ c. search needs) (λ c κs. search needs) returns-3)

@@ -7,11 +7,8 @@ use Rattle.decimal.proofs.integer.read_natural.Tie as tie
 returns : tie.Need-returns
 returns c = natural-empty _ _ (c .if1 .taken)
 
-number-requires : tie.Need-number-requires
-number-requires c κs = search needs
-
 returns-2 : tie.Need-returns-2
 returns-2 c = c .number .ensures ∙ natural-digits _ _ (c .before .if1 .left)
 
 pub read-natural-spec : {M : Type 1} → statement M
-read-natural-spec = tie.close (tie.spec returns number-requires returns-2)
+read-natural-spec = tie.close (tie.spec returns (λ c κs. search needs) returns-2)

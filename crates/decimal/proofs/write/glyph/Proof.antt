@@ -3,18 +3,6 @@ use borrow.Author.Needs.{needs}
 use Rattle.decimal.proofs.write.glyph.Statement.{statement}
 use Rattle.decimal.proofs.write.glyph.Tie as tie
 
-cast-result : tie.Need-cast-result
-cast-result c = search needs
-
-add-result : tie.Need-add-result
-add-result c = search needs
-
-cast-result-2 : tie.Need-cast-result-2
-cast-result-2 c = search needs
-
-add-result-2 : tie.Need-add-result-2
-add-result-2 c = search needs
-
 returns : tie.Need-returns
 returns c = glyph-low _ (c .if1 .taken)
 
@@ -23,4 +11,5 @@ returns-2 c = glyph-high _ (c .if1 .left)
 
 pub glyph-spec : {M : Type 1} → statement M
 glyph-spec =
-    tie.close (tie.spec cast-result add-result cast-result-2 add-result-2 returns returns-2)
+    tie.close (tie.spec (λ c. search needs) (λ c. search needs) (λ c. search needs) (λ c. search needs) returns
+    returns-2)

@@ -16,9 +16,6 @@ abbrev μ-loop : tie.MeasureT-loop
 loop-holds : tie.Need-loop-holds Inv-loop μ-loop
 loop-holds c = (refl, omega arith, refl)
 
-sub-left : tie.Need-sub-left Inv-loop μ-loop
-sub-left c = omega arith
-
 add-place : tie.Need-add-place Inv-loop μ-loop
 add-place c = omega (arith, c .before .before .before .pre, c .before .before .before .good)
 
@@ -29,16 +26,19 @@ glyph-requires : tie.Need-glyph-requires Inv-loop μ-loop
 glyph-requires c κs = let h = mod-lt (c .before .loop .rest) {m = c .before .before .before .args .base} (omega (arith, c .before .before .before .pre)) in omega (arith, c .before .before .before .pre)
 
 slice-write-out : tie.Need-slice-write-out Inv-loop μ-loop
-slice-write-out c = omega (arith, c .before .before .before .before .pre)
+slice-write-out c =
+    let start = c .before .before .before .before in
+    omega (arith, start .pre)
 
 div-rest : tie.Need-div-rest Inv-loop μ-loop
-div-rest c = omega (arith, c .before .before .before .before .pre)
-
-loop-less : tie.Need-loop-less Inv-loop μ-loop
-loop-less c = omega arith
+div-rest c =
+    let start = c .before .before .before .before in
+    omega (arith, start .pre)
 
 loop-again : tie.Need-loop-again Inv-loop μ-loop
-loop-again c = (length-set (c .before .before .loop .out) _ _ ∙ c .before .before .loop .inv .0, omega arith, c .before .before .loop .inv .2 ∙ turn-left (c .before .before .before .before .args .base) (c .before .before .before .before .args .at) (c .before .before .loop .left) (c .before .before .loop .rest) _ (c .before .before .loop .out) (c .before .loop-test .taken) (omega (arith, c .before .before .before .before .pre)) (c .glyph .ensures))
+loop-again c =
+    let start = c .before .before .before .before in
+    (length-set (c .before .before .loop .out) _ _ ∙ c .before .before .loop .inv .0, omega arith, c .before .before .loop .inv .2 ∙ turn-left (start .args .base) (start .args .at) (c .before .before .loop .left) (c .before .before .loop .rest) _ (c .before .before .loop .out) (c .before .loop-test .taken) (omega (arith, start .pre)) (c .glyph .ensures))
 
 same-length : tie.Need-same-length Inv-loop μ-loop
 same-length c = c .before .loop .inv .0
@@ -48,18 +48,5 @@ returns c = put-digits (c .before .before .before .args .base) (c .before .befor
 
 pub spell-spec : {M : Type 1} → statement M
 spell-spec =
-    tie.close
-    (tie.spec
-    Inv-loop
-    μ-loop
-    loop-holds
-    sub-left
-    add-place
-    rem-glyph
-    glyph-requires
-    slice-write-out
-    div-rest
-    loop-less
-    loop-again
-    same-length
-    returns)
+    tie.close (tie.spec Inv-loop μ-loop loop-holds (λ c. omega arith) add-place rem-glyph glyph-requires
+    slice-write-out div-rest (λ c. omega arith) loop-again same-length returns)

@@ -7,21 +7,21 @@ use borrow.Author.Needs.{needs}
 use Rattle.decimal.proofs.write.write_from.Statement.{statement}
 use Rattle.decimal.proofs.write.write_from.Tie as tie
 
-places-requires : tie.Need-places-requires
-places-requires c κs = search needs
-
 spell-requires : tie.Need-spell-requires
 spell-requires c κs = let l = numeral-few (c .before .before .before .args .n) in omega (arith, c .before .before .before .pre, c .before .places .ensures, l)
 
 add-result : tie.Need-add-result
-add-result c = let l = numeral-few (c .before .before .before .before .before .before .args .n) in omega (arith, c .before .before .before .before .before .before .pre, c .before .before .before .before .before .before .good, c .before .before .before .before .places .ensures, l)
-
-same-length : tie.Need-same-length
-same-length c = search needs
+add-result c =
+    let start = c .before .before .before .before .before .before in
+    let places = c .before .before .before .before .places in
+    let l = numeral-few (start .args .n) in
+    omega (arith, start .pre, start .good, places .ensures, l)
 
 returns : tie.Need-returns
-returns c = (ap (λ (k : ℕ). c .before .before .before .before .before .before .args .at + k) (c .before .before .before .before .places .ensures), put-numeral (c .before .before .before .before .before .before .args .n) (c .before .before .before .before .before .before .args .at) (c .before .before .before .before .places .result) _ _ (c .before .before .before .before .places .ensures) (c .before .before .spell .ensures))
+returns c =
+    let start = c .before .before .before .before .before .before in
+    let places = c .before .before .before .before .places in
+    (ap (λ (k : ℕ). start .args .at + k) (places .ensures), put-numeral (start .args .n) (start .args .at) (places .result) _ _ (places .ensures) (c .before .before .spell .ensures))
 
 pub write-from-spec : {M : Type 1} → statement M
-write-from-spec =
-    tie.close (tie.spec places-requires spell-requires add-result same-length returns)
+write-from-spec = tie.close (tie.spec (λ c κs. search needs) spell-requires add-result (λ c. search needs) returns)

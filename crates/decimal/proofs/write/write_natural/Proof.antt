@@ -6,14 +6,10 @@ use borrow.Author.Needs.{needs}
 use Rattle.decimal.proofs.write.write_natural.Statement.{statement}
 use Rattle.decimal.proofs.write.write_natural.Tie as tie
 
-write-from-requires : tie.Need-write-from-requires
-write-from-requires c κs = search needs
-
-same-length : tie.Need-same-length
-same-length c = search needs
-
 returns : tie.Need-returns
-returns c = output-after [] (naturalText (c .before .before .before .before .before .args .n)) _ (c .before .before .before .before .before .args .out .now) _ (c .before .before .write-from .result) refl (c .before .before .write-from .ensures .0) (c .before .before .write-from .ensures .1)
+returns c =
+    let start = c .before .before .before .before .before in
+    output-after [] (naturalText (start .args .n)) _ (start .args .out .now) _ (c .before .before .write-from .result) refl (c .before .before .write-from .ensures .0) (c .before .before .write-from .ensures .1)
 
 pub write-natural-spec : {M : Type 1} → statement M
-write-natural-spec = tie.close (tie.spec write-from-requires same-length returns)
+write-natural-spec = tie.close (tie.spec (λ c κs. search needs) (λ c. search needs) returns)

@@ -17,34 +17,22 @@ abbrev μ-loop : tie.MeasureT-loop
 loop-holds : tie.Need-loop-holds Inv-loop μ-loop
 loop-holds c = (refl, omega arith, omega arith)
 
-shared-slice-read-if1 : tie.Need-shared-slice-read-if1 Inv-loop μ-loop
-shared-slice-read-if1 c = omega arith
-
 returns : tie.Need-returns Inv-loop μ-loop
-returns c = let h = point-here (c .before .before .before .before .args .text .now) (c .before .before .before .loop .i) (omega arith) (c .if1 .taken) in omega arith
-
-add-i : tie.Need-add-i Inv-loop μ-loop
-add-i c = omega arith
-
-loop-less : tie.Need-loop-less Inv-loop μ-loop
-loop-less c = omega arith
+returns c =
+    let start = c .before .before .before .before in
+    let h = point-here (start .args .text .now) (c .before .before .before .loop .i) (omega arith) (c .if1 .taken) in
+    omega arith
 
 loop-again : tie.Need-loop-again Inv-loop μ-loop
-loop-again c = let h = point-later (c .before .before .before .before .args .text .now) (c .before .before .before .loop .i) (omega arith) (c .if1 .left) in (refl, omega arith, rw add-one (omega arith))
+loop-again c =
+    let start = c .before .before .before .before in
+    let h = point-later (start .args .text .now) (c .before .before .before .loop .i) (omega arith) (c .if1 .left) in
+    (refl, omega arith, rw add-one (omega arith))
 
 returns-2 : tie.Need-returns-2 Inv-loop μ-loop
 returns-2 c = let h = point-end (c .before .before .args .text .now) (c .before .loop .i) (omega arith) in omega arith
 
 pub point-place-spec : {M : Type 1} → statement M
 point-place-spec =
-    tie.close
-    (tie.spec
-    Inv-loop
-    μ-loop
-    loop-holds
-    shared-slice-read-if1
-    returns
-    add-i
-    loop-less
-    loop-again
-    returns-2)
+    tie.close (tie.spec Inv-loop μ-loop loop-holds (λ c. omega arith) returns (λ c. omega arith) (λ c. omega arith)
+    loop-again returns-2)

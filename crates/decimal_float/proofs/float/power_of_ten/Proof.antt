@@ -17,12 +17,6 @@ loop-holds c = (omega arith, refl)
 mul-p : tie.Need-mul-p Inv-loop μ-loop
 mul-p c = let h = ten-small (c .before .loop .i) (omega arith) in omega arith
 
-add-i : tie.Need-add-i Inv-loop μ-loop
-add-i c = omega arith
-
-loop-less : tie.Need-loop-less Inv-loop μ-loop
-loop-less c = omega arith
-
 loop-again : tie.Need-loop-again Inv-loop μ-loop
 loop-again c = (omega arith, ap (λ (x : ℕ). x * 10) (c .before .loop .inv .1) ∙ ten-more (c .before .loop .i))
 
@@ -31,4 +25,4 @@ returns c = c .before .loop .inv .1 ∙ ap (λ (x : ℕ). 10 ^ x) (omega arith)
 
 pub power-of-ten-spec : {M : Type 1} → statement M
 power-of-ten-spec =
-    tie.close (tie.spec Inv-loop μ-loop loop-holds mul-p add-i loop-less loop-again returns)
+    tie.close (tie.spec Inv-loop μ-loop loop-holds mul-p (λ c. omega arith) (λ c. omega arith) loop-again returns)

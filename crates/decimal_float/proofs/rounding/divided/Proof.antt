@@ -13,26 +13,8 @@ Inv-loop m d whole₀ rest₀ steps₀ whole rest steps = Turned m d whole rest 
 abbrev μ-loop : tie.MeasureT-loop
 μ-loop m d whole₀ rest₀ steps₀ whole rest steps = 113 - steps
 
-div-whole : tie.Need-div-whole Inv-loop μ-loop
-div-whole c = omega arith
-
-rem-rest : tie.Need-rem-rest Inv-loop μ-loop
-rem-rest c = omega arith
-
 loop-holds : tie.Need-loop-holds Inv-loop μ-loop
 loop-holds c = (first-parts (c .args .m) (c .args .d), mod-lt (c .args .m) (omega arith), let h = div-le-self (c .args .m) (c .args .d) in omega arith, omega arith)
-
-mul-whole : tie.Need-mul-whole Inv-loop μ-loop
-mul-whole c = omega arith
-
-mul-rest : tie.Need-mul-rest Inv-loop μ-loop
-mul-rest c = omega arith
-
-add-whole : tie.Need-add-whole Inv-loop μ-loop
-add-whole c = omega arith
-
-add-steps : tie.Need-add-steps Inv-loop μ-loop
-add-steps c = omega arith
 
 loop-less : tie.Need-loop-less Inv-loop μ-loop
 loop-less c = omega (arith, ltb-true)
@@ -48,18 +30,5 @@ returns-2 c = let i = c .before .loop .inv in record { parts = i .0; small = i .
 
 pub divided-spec : {M : Type 1} → statement M
 divided-spec =
-    tie.close
-    (tie.spec
-    Inv-loop
-    μ-loop
-    div-whole
-    rem-rest
-    loop-holds
-    mul-whole
-    mul-rest
-    add-whole
-    add-steps
-    loop-less
-    loop-again
-    returns
-    returns-2)
+    tie.close (tie.spec Inv-loop μ-loop (λ c. omega arith) (λ c. omega arith) loop-holds (λ c. omega arith)
+    (λ c. omega arith) (λ c. omega arith) (λ c. omega arith) loop-less loop-again returns returns-2)

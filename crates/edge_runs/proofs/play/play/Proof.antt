@@ -6,43 +6,21 @@ use Rattle.edge_runs.proofs.play.play.Statement.{statement}
 use Rattle.edge_runs.proofs.play.play.Tie as tie
 
 abbrev Inv-loop : tie.InvT-loop
-Inv-loop list dense lent told₀ ids₀ offsets₀ values₀ masks₀ names₀ n s₀ i₀ told ids offsets values masks names s i = (length told ≡ length told₀) × (length ids ≡ length ids₀) × (length offsets ≡ length offsets₀) × (length values ≡ length values₀) × (length masks ≡ length masks₀) × (length names ≡ length names₀)
+Inv-loop list dense lent told₀ ids₀ offsets₀ values₀ masks₀ names₀ n b₀ half₀ i₀ told ids offsets values masks names b half i = (length told ≡ length told₀) × (length ids ≡ length ids₀) × (length offsets ≡ length offsets₀) × (length values ≡ length values₀) × (length masks ≡ length masks₀) × (length names ≡ length names₀)
 
 abbrev μ-loop : tie.MeasureT-loop
-μ-loop list dense lent told₀ ids₀ offsets₀ values₀ masks₀ names₀ n s₀ i₀ told ids offsets values masks names s i = n - i
-
-entries-of-requires : tie.Need-entries-of-requires Inv-loop μ-loop
-entries-of-requires c κs = tt
-
-made-requires : tie.Need-made-requires Inv-loop μ-loop
-made-requires c κs = tt
-
-no-array-requires : tie.Need-no-array-requires Inv-loop μ-loop
-no-array-requires c κs = tt
-
-loop-holds : tie.Need-loop-holds Inv-loop μ-loop
-loop-holds c = (refl, refl, refl, refl, refl, refl)
-
-described-requires : tie.Need-described-requires Inv-loop μ-loop
-described-requires c κs = tt
-
-entry-at-requires : tie.Need-entry-at-requires Inv-loop μ-loop
-entry-at-requires c κs = tt
-
-put-requires : tie.Need-put-requires Inv-loop μ-loop
-put-requires c κs = tt
-
-after-requires : tie.Need-after-requires Inv-loop μ-loop
-after-requires c κs = tt
-
-note-requires : tie.Need-note-requires Inv-loop μ-loop
-note-requires c κs = tt
+μ-loop list dense lent told₀ ids₀ offsets₀ values₀ masks₀ names₀ n b₀ half₀ i₀ told ids offsets values masks names b half i = n - i
 
 add-i : tie.Need-add-i Inv-loop μ-loop
-add-i c = omega (arith, c .before .before .before .before .before .before .before .before .before .before .before .before .before .before .before .before .before .before .before .before .before .before .before .before .before .before .loop-test .taken, c .before .before .before .before .before .before .before .before .before .before .before .before .before .before .before .before .before .before .before .before .before .before .before .before .before .before .before .before .before .before .before .before .before .before .before .entries-of .ok)
+add-i c =
+    let turn = c .before .before .before .before .before .before .before .before .before .before .before .before .before .before .before .before .before .before .before .before .before .before .before .before .before .before in
+    let entries-of = turn .before .before .before .before .before .before .before .before .before .entries-of in
+    omega (arith, turn .loop-test .taken, entries-of .ok)
 
 loop-less : tie.Need-loop-less Inv-loop μ-loop
-loop-less c = omega (arith, c .before .before .before .before .before .before .before .before .before .before .before .before .before .before .before .before .before .before .before .before .before .before .before .before .before .before .loop-test .taken)
+loop-less c =
+    let turn = c .before .before .before .before .before .before .before .before .before .before .before .before .before .before .before .before .before .before .before .before .before .before .before .before .before .before in
+    omega (arith, turn .loop-test .taken)
 
 loop-again : tie.Need-loop-again Inv-loop μ-loop
 loop-again c =
@@ -57,49 +35,9 @@ loop-again c =
       p .1 .1 .1 .1 .0 ∙ l .5,
     )
 
-same-length : tie.Need-same-length Inv-loop μ-loop
-same-length c = c .before .loop .inv .0
-
-same-length-2 : tie.Need-same-length-2 Inv-loop μ-loop
-same-length-2 c = c .before .loop .inv .1
-
-same-length-3 : tie.Need-same-length-3 Inv-loop μ-loop
-same-length-3 c = c .before .loop .inv .2
-
-same-length-4 : tie.Need-same-length-4 Inv-loop μ-loop
-same-length-4 c = c .before .loop .inv .3
-
-same-length-5 : tie.Need-same-length-5 Inv-loop μ-loop
-same-length-5 c = c .before .loop .inv .4
-
-same-length-6 : tie.Need-same-length-6 Inv-loop μ-loop
-same-length-6 c = c .before .loop .inv .5
-
-returns : tie.Need-returns Inv-loop μ-loop
-returns c = tt
-
 pub play-spec : {M : Type 1} → statement M
 play-spec =
-    tie.close
-    (tie.spec
-    Inv-loop
-    μ-loop
-    entries-of-requires
-    made-requires
-    no-array-requires
-    loop-holds
-    described-requires
-    entry-at-requires
-    put-requires
-    after-requires
-    note-requires
-    add-i
-    loop-less
-    loop-again
-    same-length
-    same-length-2
-    same-length-3
-    same-length-4
-    same-length-5
-    same-length-6
-    returns)
+    tie.close (tie.spec Inv-loop μ-loop (λ c κs. tt) (λ c κs. tt) (λ c κs. tt)
+    (λ c. (refl, refl, refl, refl, refl, refl)) (λ c κs. tt) (λ c κs. tt) (λ c κs. tt) (λ c κs. tt) add-i loop-less
+    loop-again (λ c. c .before .loop .inv .0) (λ c. c .before .loop .inv .1) (λ c. c .before .loop .inv .2)
+    (λ c. c .before .loop .inv .3) (λ c. c .before .loop .inv .4) (λ c. c .before .loop .inv .5) (λ c. tt))

@@ -9,53 +9,8 @@ Inv-loop a b i₀ i-end i = i ≤ i-end
 abbrev μ-loop : tie.MeasureT-loop
 μ-loop a b i₀ i-end i = i-end - i
 
-returns : tie.Need-returns Inv-loop μ-loop
-returns c = tt
-
-loop-holds : tie.Need-loop-holds Inv-loop μ-loop
-loop-holds c = omega arith
-
-mul-if2 : tie.Need-mul-if2 Inv-loop μ-loop
-mul-if2 c = omega arith
-
-shared-slice-copy-out-if2 : tie.Need-shared-slice-copy-out-if2 Inv-loop μ-loop
-shared-slice-copy-out-if2 c = omega arith
-
-mul-if2-2 : tie.Need-mul-if2-2 Inv-loop μ-loop
-mul-if2-2 c = omega arith
-
-shared-slice-copy-out-if2-2 : tie.Need-shared-slice-copy-out-if2-2 Inv-loop μ-loop
-shared-slice-copy-out-if2-2 c = omega arith
-
-returns-2 : tie.Need-returns-2 Inv-loop μ-loop
-returns-2 c = tt
-
-add-i : tie.Need-add-i Inv-loop μ-loop
-add-i c = omega arith
-
-loop-less : tie.Need-loop-less Inv-loop μ-loop
-loop-less c = omega arith
-
-loop-again : tie.Need-loop-again Inv-loop μ-loop
-loop-again c = omega arith
-
-returns-3 : tie.Need-returns-3 Inv-loop μ-loop
-returns-3 c = tt
-
 pub offsets-spec : {M : Type 1} → statement M
 offsets-spec =
-    tie.close
-    (tie.spec
-    Inv-loop
-    μ-loop
-    returns
-    loop-holds
-    mul-if2
-    shared-slice-copy-out-if2
-    mul-if2-2
-    shared-slice-copy-out-if2-2
-    returns-2
-    add-i
-    loop-less
-    loop-again
-    returns-3)
+    tie.close (tie.spec Inv-loop μ-loop (λ c. tt) (λ c. omega arith) (λ c. omega arith) (λ c. omega arith)
+    (λ c. omega arith) (λ c. omega arith) (λ c. tt) (λ c. omega arith) (λ c. omega arith) (λ c. omega arith)
+    (λ c. tt))

@@ -1,16 +1,10 @@
 use mathlib.Core.Path.{ap, _∙_}
 use mathlib.Core.Bool.{true}
 use Rattle.logical_nulls.specs.Mask.{LogicalNulls, numbersOf}
-use Rattle.logical_nulls.proofs.Writing.{answer-yes, answer-no}
+use Rattle.logical_nulls.proofs.Calls.{answer-yes, answer-no}
 use borrow.Author.Needs.{needs}
 use Rattle.logical_nulls.proofs.answers.answer_on.Statement.{statement}
 use Rattle.logical_nulls.proofs.answers.answer_on.Tie as tie
-
-no-mask-requires : tie.Need-no-mask-requires
-no-mask-requires c κs = search needs
-
-is-present-requires : tie.Need-is-present-requires
-is-present-requires c κs = search needs
 
 returns : tie.Need-returns
 returns c =
@@ -26,10 +20,4 @@ returns-2 c =
     ap numbersOf (c .before .before .no-mask .ensures) ∙ answer-no (a .route) (a .nulls) (p .result) (p .ensures) (c .if1 .left)
 
 pub answer-on-spec : {M : Type 1} → statement M
-answer-on-spec =
-    tie.close
-    (tie.spec
-    no-mask-requires
-    is-present-requires
-    returns
-    returns-2)
+answer-on-spec = tie.close (tie.spec (λ c κs. search needs) (λ c κs. search needs) returns returns-2)

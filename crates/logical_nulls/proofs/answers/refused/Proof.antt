@@ -4,15 +4,8 @@ use borrow.Author.Needs.{needs}
 use Rattle.logical_nulls.proofs.answers.refused.Statement.{statement}
 use Rattle.logical_nulls.proofs.answers.refused.Tie as tie
 
-no-mask-requires : tie.Need-no-mask-requires
-no-mask-requires c κs = search needs
-
 returns : tie.Need-returns
 returns c = ap numbersOf (c .no-mask .ensures)
 
 pub refused-spec : {M : Type 1} → statement M
-refused-spec =
-    tie.close
-    (tie.spec
-    no-mask-requires
-    returns)
+refused-spec = tie.close (tie.spec (λ c κs. search needs) returns)

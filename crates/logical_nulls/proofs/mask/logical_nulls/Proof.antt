@@ -22,11 +22,18 @@ accepted : (c : tie.Else1) → let st = c .before .before .before .before .befor
 accepted c = sym (c .before .check .ensures) ∙ c .if1 .left
 
 -- and 12: the number is a setting, whose cost it is
-is-setting : (c : tie.After-made) → settingNumber (settingOf (c .before .before .before .before .before .before .before .before .before .args .cost)) ≡ 0
+is-setting : (c : tie.After-made) →
+    let a = c .before .before .before .before .before .before .before .before .before .args in
+    settingNumber (settingOf (a .cost)) ≡ 0
 is-setting c = setting-taken _ _ (ap settingTold (sym (c .made .given .1)) ∙ c .before .before .new .ensures) .0
 
-its-cost : (c : tie.After-cost) → c .cost .result ≡ c .before .before .before .before .before .before .before .before .before .before .before .before .before .before .args .cost
-its-cost c = c .cost .ensures ∙ setting-taken _ _ (ap settingTold (sym (c .before .before .before .before .before .made .given .1)) ∙ c .before .before .before .before .before .before .before .new .ensures) .1
+its-cost : (c : tie.After-cost) →
+    let a = c .before .before .before .before .before .before .before .before .before .before .before .before .before .before .args in
+    c .cost .result ≡ a .cost
+its-cost c =
+    let new = c .before .before .before .before .before .before .before .new in
+    let made = c .before .before .before .before .before .made in
+    c .cost .ensures ∙ setting-taken _ _ (ap settingTold (sym (made .given .1)) ∙ new .ensures) .1
 
 -- the route
 its-route : (c : tie.After-route-for) → let st = c .before .before .before .before .before .before .before .before .before .before .before .before .before .before .before in
@@ -36,68 +43,46 @@ its-route c =
     c .route-for .ensures (onlyWords (st .args .values .now) (st .args .masks .now)) (c .before .before .fields-of .ensures)
     ∙ route-words (st .args .array) (lent st) (c .before .cost .result) ∙ ap (routeOf (st .args .array) (lent st)) (its-cost (c .before))
 
-check-requires : tie.Need-check-requires
-check-requires c κs = search needs
-
-refused-requires : tie.Need-refused-requires
-refused-requires c κs = search needs
-
 returns : tie.Need-returns
 returns c =
     let st = c .before .before .before .before .before .before .before in
     mask-unchecked (st .args .array) (lent st) (st .args .out .now) (st .args .cost) (c .before .before .check .result) (c .refused .result) (c .before .before .check .ensures) (c .before .if1 .taken) (c .refused .ensures)
 
-new-requires : tie.Need-new-requires
-new-requires c κs = search needs
-
-enum-known-made : tie.Need-enum-known-made
-enum-known-made c = search needs
-
 enum-told : tie.Need-enum-told
 enum-told c = search needs
 
-refused-requires-2 : tie.Need-refused-requires-2
-refused-requires-2 c κs = search needs
-
 returns-2 : tie.Need-returns-2
 returns-2 c =
+    let there = c .before .before .before .before in
     let st = c .before .before .before .before .before .before .before .before .before .before in
-    mask-12 (st .args .array) (lent st) (st .args .out .now) (st .args .cost) (accepted (c .before .before .before .before)) (c .refused2 .result)
+    mask-12 (st .args .array) (lent st) (st .args .out .now) (st .args .cost) (accepted there) (c .refused2 .result)
     (setting-refused (st .args .cost) (ap settingTold (sym (c .before .enum-told .given .1)) ∙ c .before .before .before .new .ensures)) (c .refused2 .ensures)
 
 words-for-requires : tie.Need-words-for-requires
 words-for-requires c κs =
+    let there = c .before .before .before .before in
     let st = c .before .before .before .before .before .before .before .before .before .before in
-    omega (arith, counted-ok (st .args .array) (lent st) (accepted (c .before .before .before .before)))
-
-refused-requires-3 : tie.Need-refused-requires-3
-refused-requires-3 c κs = search needs
+    omega (arith, counted-ok (st .args .array) (lent st) (accepted there))
 
 returns-3 : tie.Need-returns-3
 returns-3 c =
+    let there = c .before .before .before .before .before .before .before in
+    let there-2 = c .before .before .before .before in
     let st = c .before .before .before .before .before .before .before .before .before .before .before .before .before in
     let w = c .before .before .words-for in
-    mask-13 (st .args .array) (lent st) (st .args .out .now) (st .args .cost) (accepted (c .before .before .before .before .before .before .before)) (c .refused3 .result) (is-setting (c .before .before .before .before))
+    mask-13 (st .args .array) (lent st) (st .args .out .now) (st .args .cost) (accepted there) (c .refused3 .result) (is-setting there-2)
     (too-few (st .args .array) (lent st) (st .args .out .now) (w .result) (w .ensures) (c .before .if2 .taken)) (c .refused3 .ensures)
 
 fields-of-requires : tie.Need-fields-of-requires
 fields-of-requires c κs =
+    let there = c .before .before .before .before .before .before in
     let st = c .before .before .before .before .before .before .before .before .before .before .before .before in
-    fields-ok (st .args .array) (lent st) (accepted (c .before .before .before .before .before .before))
-
-cost-requires : tie.Need-cost-requires
-cost-requires c κs = search needs
+    fields-ok (st .args .array) (lent st) (accepted there)
 
 route-for-requires : tie.Need-route-for-requires
 route-for-requires c κs =
     let a = c .before .before .before .before .before .before .before .before .before .before .before .before .before .before .args in
     record { buffers = onlyWords (a .values .now) (a .masks .now); fields = c .before .fields-of .ensures }
-
-is-absent-requires : tie.Need-is-absent-requires
-is-absent-requires c κs = search needs
-
-answer-on-requires : tie.Need-answer-on-requires
-answer-on-requires c κs = search needs
 
 -- what is written on the route is the answer
 its-mask : (c : tie.After-route-for) → let st = c .before .before .before .before .before .before .before .before .before .before .before .before .before .before .before in
@@ -125,15 +110,13 @@ run-route-requires c κs =
     let chosen = c .before .before .before in
     let stated = chosen .before .before in
     let roomy = stated .before in
+    let there = roomy .before .before .before .before .before .before in
     let w = roomy .before .words-for in
     let st = chosen .before .before .before .before .before .before .before .before .before .before .before .before .before .before .before in
     let a = st .args in
     mask-ready (a .array) (stated .fields-of .result) (a .type-ids .now) (a .offsets .now) (a .values .now) (a .masks .now) (a .names .now) (a .out .now) (a .cost)
-    (w .result) (chosen .route-for .result) (accepted (roomy .before .before .before .before .before .before)) (stated .fields-of .ensures) (w .ensures) (roomy .if2 .left) (its-route chosen)
+    (w .result) (chosen .route-for .result) (accepted there) (stated .fields-of .ensures) (w .ensures) (roomy .if2 .left) (its-route chosen)
     (sym (c .before .before .is-absent .ensures) ∙ c .before .if3 .left)
-
-same-length : tie.Need-same-length
-same-length c = search needs
 
 returns-5 : tie.Need-returns-5
 returns-5 c =
@@ -146,25 +129,7 @@ returns-5 c =
 
 pub logical-nulls-spec : {M : Type 1} → statement M
 logical-nulls-spec =
-    tie.close
-    (tie.spec
-    check-requires
-    refused-requires
-    returns
-    new-requires
-    enum-known-made
-    enum-told
-    refused-requires-2
-    returns-2
-    words-for-requires
-    refused-requires-3
-    returns-3
-    fields-of-requires
-    cost-requires
-    route-for-requires
-    is-absent-requires
-    answer-on-requires
-    returns-4
-    run-route-requires
-    same-length
-    returns-5)
+    tie.close (tie.spec (λ c κs. search needs) (λ c κs. search needs) returns (λ c κs. search needs)
+    (λ c. search needs) enum-told (λ c κs. search needs) returns-2 words-for-requires (λ c κs. search needs) returns-3
+    fields-of-requires (λ c κs. search needs) route-for-requires (λ c κs. search needs) (λ c κs. search needs)
+    returns-4 run-route-requires (λ c. search needs) returns-5)

@@ -3,7 +3,7 @@ use mathlib.Core.Path.{_≡_, sym, _∙_}
 use lib.ListN.{length, length-map}
 use Rattle.null_strategy.specs.Route.{isStepped}
 use Rattle.array_columns.specs.declared.Layout.the-variants.{Sparse}
-use Rattle.logical_nulls.specs.Steps.{WithNulls}
+use Rattle.mask_words.specs.declared.Taken.the-variants.{WithNulls}
 use Rattle.logical_nulls.proofs.Masks.{not-sparse, short, nulls-alone, few-fields, valid-fields, named-on, steps-on, stepped, gathers-on, gathered}
 use borrow.Author.Needs.{needs}
 use Rattle.logical_nulls.proofs.words.write_mask.Statement.{statement}
@@ -12,17 +12,11 @@ use Rattle.logical_nulls.proofs.words.write_mask.Tie as tie
 full : (st : tie.Start) → length (st .args .array .columns) ≡ 128
 full st = sym (length-map (st .args .array .columns) _) ∙ st .good .0 .1 .1 .0 .1 .0 .1
 
-is-all-null-requires : tie.Need-is-all-null-requires
-is-all-null-requires c κs = search needs
-
 write-nulls-requires : tie.Need-write-nulls-requires
 write-nulls-requires c κs =
     let st = c .before .before .before .before .before .before in
     let a = st .args in
     (short (a .array) (a .fs) (a .route) (a .ids .now) (a .offsets .now) (a .values .now) (a .masks .now) (a .out .now) (full st) (st .pre), st .pre .lent)
-
-same-length : tie.Need-same-length
-same-length c = search needs
 
 returns : tie.Need-returns
 returns c =
@@ -31,12 +25,6 @@ returns c =
     let a = st .args in
     c .before .before .write-nulls .ensures ∙ nulls-alone (a .array) (a .fs) (a .route) (a .ids .now) (a .offsets .now) (a .values .now) (a .masks .now) (a .out .now) (full st) (st .pre) (sym (asked .before .is-all-null .ensures) ∙ asked .if1 .taken)
 
-by-step-requires : tie.Need-by-step-requires
-by-step-requires c κs = search needs
-
-over-of-requires : tie.Need-over-of-requires
-over-of-requires c κs = search needs
-
 taken-fields-requires : tie.Need-taken-fields-requires
 taken-fields-requires c κs =
     let st = c .before .before .before .before .before .before .before .before .before in
@@ -44,7 +32,9 @@ taken-fields-requires c κs =
     (few-fields (a .array) (a .fs) (a .route) (a .ids .now) (a .offsets .now) (a .values .now) (a .masks .now) (a .out .now) (full st) (st .pre), valid-fields (a .array) (a .fs) (a .route) (a .ids .now) (a .offsets .now) (a .values .now) (a .masks .now) (a .out .now) (full st) (st .pre))
 
 -- a step is taken only in a sparse union
-sparse : (c : tie.Then2) → c .before .before .before .before .before .before .before .before .args .array .layout ≡ Sparse
+sparse : (c : tie.Then2) →
+    let a = c .before .before .before .before .before .before .before .before .args in
+    a .array .layout ≡ Sparse
 sparse c =
     let a = c .before .before .before .before .before .before .before .before .args in
     not-sparse (a .array .layout) (isStepped (a .route)) (sym (c .before .by-step .ensures) ∙ c .if2 .taken)
@@ -56,9 +46,6 @@ write-words-requires c κs =
     let a = st .args in
     let t = c .before .taken-fields in
     ((short (a .array) (a .fs) (a .route) (a .ids .now) (a .offsets .now) (a .values .now) (a .masks .now) (a .out .now) (full st) (st .pre), st .pre .lent), steps-on (a .array) (a .fs) (a .route) (a .ids .now) (a .offsets .now) (a .values .now) (a .masks .now) (a .out .now) (full st) (st .pre) (over .over-of .result) (t .result) (t .ensures) (sparse (over .before)))
-
-same-length-2 : tie.Need-same-length-2
-same-length-2 c = search needs
 
 returns-2 : tie.Need-returns-2
 returns-2 c =
@@ -90,9 +77,6 @@ write-gathered-requires c κs =
     let l = c .before .fill in
     ((short (a .array) (a .fs) (a .route) (a .ids .now) (a .offsets .now) (a .values .now) (a .masks .now) (a .out .now) (full st) (st .pre), st .pre .lent), gathers-on (a .array) (a .fs) (a .route) (a .ids .now) (a .offsets .now) (a .values .now) (a .masks .now) (a .out .now) (full st) (st .pre) (t .result) (t .ensures) (l .result) (l .ensures))
 
-same-length-3 : tie.Need-same-length-3
-same-length-3 c = search needs
-
 returns-3 : tie.Need-returns-3
 returns-3 c =
     let filled = c .before .before .before .before in
@@ -104,20 +88,6 @@ returns-3 c =
 
 pub write-mask-spec : {M : Type 1} → statement M
 write-mask-spec =
-    tie.close
-    (tie.spec
-    is-all-null-requires
-    write-nulls-requires
-    same-length
-    returns
-    by-step-requires
-    over-of-requires
-    taken-fields-requires
-    write-words-requires
-    same-length-2
-    returns-2
-    taken-fields-requires-2
-    fill-requires
-    write-gathered-requires
-    same-length-3
-    returns-3)
+    tie.close (tie.spec (λ c κs. search needs) write-nulls-requires (λ c. search needs) returns (λ c κs. search needs)
+    (λ c κs. search needs) taken-fields-requires write-words-requires (λ c. search needs) returns-2
+    taken-fields-requires-2 fill-requires write-gathered-requires (λ c. search needs) returns-3)

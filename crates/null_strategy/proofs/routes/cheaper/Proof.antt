@@ -9,8 +9,5 @@ returns c = let a = c .before .before .before .args in less (a .best) (a .applie
 returns-2 : tie.Need-returns-2
 returns-2 c = let a = c .before .before .before .args in not-less (a .best) (a .applies) (a .cost) (a .route) (c .before .before .if1 .taken) (c .if2 .left)
 
-returns-3 : tie.Need-returns-3
-returns-3 c = search needs
-
 pub cheaper-spec : {M : Type 1} → statement M
-cheaper-spec = tie.close (tie.spec returns returns-2 returns-3)
+cheaper-spec = tie.close (tie.spec returns returns-2 (λ c. search needs))

@@ -9,9 +9,6 @@ use Rattle.null_strategy.proofs.routes.route_for.Tie as tie
 returns : tie.Need-returns
 returns c = let p = c .before .args in λ m e. no-field (p .t1) m (p .gather) (p .fs) e (c .if1 .taken)
 
-element-copy-out-first : tie.Need-element-copy-out-first
-element-copy-out-first c = search needs
-
 returns-2 : tie.Need-returns-2
 returns-2 c =
     let many = c .before .before .before in
@@ -46,9 +43,6 @@ sparse-route-requires c κs =
     let st = many .before .before in
     (omega (arith, many .if2 .left), full-le (st .args .t1) (st .args .fs) (st .pre))
 
-enum-told-2 : tie.Need-enum-told-2
-enum-told-2 c = search needs
-
 returns-6 : tie.Need-returns-6
 returns-6 c =
     let rest = c .before .before .before in
@@ -69,16 +63,5 @@ returns-7 c =
 
 pub route-for-spec : {M : Type 1} → statement M
 route-for-spec =
-    tie.close
-    (tie.spec
-    returns
-    element-copy-out-first
-    returns-2
-    returns-3
-    returns-4
-    returns-5
-    enum-told
-    sparse-route-requires
-    enum-told-2
-    returns-6
-    returns-7)
+    tie.close (tie.spec returns (λ c. search needs) returns-2 returns-3 returns-4 returns-5 enum-told
+    sparse-route-requires (λ c. search needs) returns-6 returns-7)

@@ -6,21 +6,6 @@ use borrow.Author.Needs.{needs}
 use Rattle.null_strategy.proofs.routes.sparse_route.Statement.{statement}
 use Rattle.null_strategy.proofs.routes.sparse_route.Tie as tie
 
-sub-cheaper : tie.Need-sub-cheaper
-sub-cheaper c = search needs
-
-cheaper-requires : tie.Need-cheaper-requires
-cheaper-requires c κs = search needs
-
-cheaper-requires-2 : tie.Need-cheaper-requires-2
-cheaper-requires-2 c κs = search needs
-
-sub-cheaper-2 : tie.Need-sub-cheaper-2
-sub-cheaper-2 c = search needs
-
-cheaper-requires-3 : tie.Need-cheaper-requires-3
-cheaper-requires-3 c κs = search needs
-
 returns : tie.Need-returns
 unfolding sparseRoute
 returns c =
@@ -30,11 +15,5 @@ returns c =
 
 pub sparse-route-spec : {M : Type 1} → statement M
 sparse-route-spec =
-    tie.close
-    (tie.spec
-    sub-cheaper
-    cheaper-requires
-    cheaper-requires-2
-    sub-cheaper-2
-    cheaper-requires-3
-    returns)
+    tie.close (tie.spec (λ c. search needs) (λ c κs. search needs) (λ c κs. search needs) (λ c. search needs)
+    (λ c κs. search needs) returns)

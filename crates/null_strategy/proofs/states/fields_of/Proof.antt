@@ -35,10 +35,14 @@ loop-holds c =
     (omega arith, none-yet (words st) cs, no-fields (hasNull (words st)) cs, no-fields (fullyNull (words st)) cs)
 
 mul-c : tie.Need-mul-c Inv-loop μ-loop
-mul-c c = omega (arith, c .before .before .before .before .pre .0)
+mul-c c =
+    let start = c .before .before .before .before in
+    omega (arith, start .pre .0)
 
 element-copy-out-c : tie.Need-element-copy-out-c Inv-loop μ-loop
-element-copy-out-c c = omega (arith, c .before .before .before .before .pre .0)
+element-copy-out-c c =
+    let start = c .before .before .before .before in
+    omega (arith, start .pre .0)
 
 state-of-requires : tie.Need-state-of-requires Inv-loop μ-loop
 state-of-requires c κs =
@@ -48,25 +52,15 @@ state-of-requires c κs =
     all-at (presenceIn (words st)) (st .args .t1 .fields) cs (c .before .before .loop .q) (st .pre .1) (c .before .loop-test .taken) (omega (arith, st .pre .0))
 
 array-set-from-states : tie.Need-array-set-from-states Inv-loop μ-loop
-array-set-from-states c = omega (arith, c .before .before .before .before .before .before .pre .0)
-
-has-null-requires : tie.Need-has-null-requires Inv-loop μ-loop
-has-null-requires c κs = search needs
-
-cast-some : tie.Need-cast-some Inv-loop μ-loop
-cast-some c = tt
+array-set-from-states c =
+    let start = c .before .before .before .before .before .before in
+    omega (arith, start .pre .0)
 
 add-some : tie.Need-add-some Inv-loop μ-loop
 add-some c =
     let l = c .before .before .before .before in
     let st = l .before .before .before in
     omega (arith, byte-le (c .has-null .result), l .loop .inv .2, many-le (hasNull (words st)) (l .loop .q) (st .args .t1 .columns), st .pre .0)
-
-is-full-requires : tie.Need-is-full-requires Inv-loop μ-loop
-is-full-requires c κs = search needs
-
-cast-full : tie.Need-cast-full Inv-loop μ-loop
-cast-full c = tt
 
 add-full : tie.Need-add-full Inv-loop μ-loop
 add-full c =
@@ -75,10 +69,9 @@ add-full c =
     omega (arith, byte-le (c .is-full .result), l .loop .inv .3, many-le (fullyNull (words st)) (l .loop .q) (st .args .t1 .columns), st .pre .0)
 
 add-q : tie.Need-add-q Inv-loop μ-loop
-add-q c = omega (arith, c .before .before .before .before .before .before .before .before .pre .0)
-
-loop-less : tie.Need-loop-less Inv-loop μ-loop
-loop-less c = search needs
+add-q c =
+    let start = c .before .before .before .before .before .before .before .before in
+    omega (arith, start .pre .0)
 
 loop-again : tie.Need-loop-again Inv-loop μ-loop
 loop-again c =
@@ -116,22 +109,6 @@ returns c =
 
 pub fields-of-spec : {M : Type 1} → statement M
 fields-of-spec =
-    tie.close
-    (tie.spec
-    Inv-loop
-    μ-loop
-    loop-holds
-    mul-c
-    element-copy-out-c
-    state-of-requires
-    array-set-from-states
-    has-null-requires
-    cast-some
-    add-some
-    is-full-requires
-    cast-full
-    add-full
-    add-q
-    loop-less
-    loop-again
-    returns)
+    tie.close (tie.spec Inv-loop μ-loop loop-holds mul-c element-copy-out-c state-of-requires array-set-from-states
+    (λ c κs. search needs) (λ c. tt) add-some (λ c κs. search needs) (λ c. tt) add-full add-q (λ c. search needs)
+    loop-again returns)

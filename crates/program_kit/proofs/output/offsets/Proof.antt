@@ -9,41 +9,7 @@ Inv-loop list below i₀ i-end i = i ≤ i-end
 abbrev μ-loop : tie.MeasureT-loop
 μ-loop list below i₀ i-end i = i-end - i
 
-loop-holds : tie.Need-loop-holds Inv-loop μ-loop
-loop-holds c = omega arith
-
-mul-offset : tie.Need-mul-offset Inv-loop μ-loop
-mul-offset c = omega arith
-
-shared-slice-copy-out-offset : tie.Need-shared-slice-copy-out-offset Inv-loop μ-loop
-shared-slice-copy-out-offset c = omega arith
-
-offset-requires : tie.Need-offset-requires Inv-loop μ-loop
-offset-requires c κs = tt
-
-add-i : tie.Need-add-i Inv-loop μ-loop
-add-i c = omega arith
-
-loop-less : tie.Need-loop-less Inv-loop μ-loop
-loop-less c = omega arith
-
-loop-again : tie.Need-loop-again Inv-loop μ-loop
-loop-again c = omega arith
-
-returns : tie.Need-returns Inv-loop μ-loop
-returns c = tt
-
 pub offsets-spec : {M : Type 1} → statement M
 offsets-spec =
-    tie.close
-    (tie.spec
-    Inv-loop
-    μ-loop
-    loop-holds
-    mul-offset
-    shared-slice-copy-out-offset
-    offset-requires
-    add-i
-    loop-less
-    loop-again
-    returns)
+    tie.close (tie.spec Inv-loop μ-loop (λ c. omega arith) (λ c. omega arith) (λ c. omega arith) (λ c κs. tt)
+    (λ c. omega arith) (λ c. omega arith) (λ c. omega arith) (λ c. tt))

@@ -11,45 +11,13 @@ Inv-loop names a width₀ k₀ width k = k ≤ 128
 abbrev μ-loop : tie.MeasureT-loop
 μ-loop names a width₀ k₀ width k = 128 - k
 
-loop-holds : tie.Need-loop-holds Inv-loop μ-loop
-loop-holds c = omega arith
-
-mul-c : tie.Need-mul-c Inv-loop μ-loop
-mul-c c = omega arith
-
 element-copy-out-c : tie.Need-element-copy-out-c Inv-loop μ-loop
-element-copy-out-c c = let full : length (c .before .before .before .before .args .t1 .columns) ≡ 128 = sym (length-map (c .before .before .before .before .args .t1 .columns) _) ∙ c .before .before .before .before .good .0 .1 .1 .0 .1 .0 .1 in omega arith
-
-name-characters-requires : tie.Need-name-characters-requires Inv-loop μ-loop
-name-characters-requires c κs = tt
-
-larger-requires : tie.Need-larger-requires Inv-loop μ-loop
-larger-requires c κs = tt
-
-add-k : tie.Need-add-k Inv-loop μ-loop
-add-k c = omega arith
-
-loop-less : tie.Need-loop-less Inv-loop μ-loop
-loop-less c = omega arith
-
-loop-again : tie.Need-loop-again Inv-loop μ-loop
-loop-again c = omega arith
-
-returns : tie.Need-returns Inv-loop μ-loop
-returns c = tt
+element-copy-out-c c =
+    let start = c .before .before .before .before in
+    let full : length (start .args .t1 .columns) ≡ 128 = sym (length-map (start .args .t1 .columns) _) ∙ start .good .0 .1 .1 .0 .1 .0 .1 in
+    omega arith
 
 pub name-width-spec : {M : Type 1} → statement M
 name-width-spec =
-    tie.close
-    (tie.spec
-    Inv-loop
-    μ-loop
-    loop-holds
-    mul-c
-    element-copy-out-c
-    name-characters-requires
-    larger-requires
-    add-k
-    loop-less
-    loop-again
-    returns)
+    tie.close (tie.spec Inv-loop μ-loop (λ c. omega arith) (λ c. omega arith) element-copy-out-c (λ c κs. tt)
+    (λ c κs. tt) (λ c. omega arith) (λ c. omega arith) (λ c. omega arith) (λ c. tt))

@@ -15,12 +15,6 @@ looked c =
     let s = c .before .before .before .before in
     c .look .ensures ∙ ap (lookOf (s .args .self) (lent s)) (toZ-ofZ (s .fits .id))
 
-look-requires : tie.Need-look-requires
-look-requires c κs = search needs
-
-child-checked-requires : tie.Need-child-checked-requires
-child-checked-requires c κs = search needs
-
 returns : tie.Need-returns
 returns c =
     let l = c .before .before in
@@ -28,4 +22,4 @@ returns c =
     child-is (s .args .self) (lent s) (s .args .id) (l .look .result) (c .child-checked .result) (looked l) (c .child-checked .ensures)
 
 pub child-spec : {M : Type 1} → statement M
-child-spec = tie.close (tie.spec look-requires child-checked-requires returns)
+child-spec = tie.close (tie.spec (λ c κs. search needs) (λ c κs. search needs) returns)

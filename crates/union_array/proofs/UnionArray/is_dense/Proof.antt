@@ -8,20 +8,11 @@ use Rattle.union_array.proofs.UnionArray.is_dense.Tie as tie
 abbrev lent : tie.Start → Buffers
 lent s = let a = s .args in buffersOf (a .type-ids .now) (a .offsets .now) (a .values .now) (a .masks .now) (a .names .now)
 
-ask-requires : tie.Need-ask-requires
-ask-requires c κs = search needs
-
-no-flag-requires : tie.Need-no-flag-requires
-no-flag-requires c κs = search needs
-
 returns : tie.Need-returns
 returns c =
     let q = c .before .before in
     let s = q .before .before .before .before in
     c .no-flag .ensures ∙ dense-refused (s .args .self) (lent s) (q .ask .result) (q .ask .ensures) (c .before .if1 .taken)
-
-is-dense-requires : tie.Need-is-dense-requires
-is-dense-requires c κs = search needs
 
 returns-2 : tie.Need-returns-2
 returns-2 c =
@@ -31,4 +22,5 @@ returns-2 c =
     dense-is (s .args .self) (lent s) (q .ask .result) (c .is-dense .result) (q .ask .ensures) (e .if1 .left) (c .is-dense .ensures)
 
 pub is-dense-spec : {M : Type 1} → statement M
-is-dense-spec = tie.close (tie.spec ask-requires no-flag-requires returns is-dense-requires returns-2)
+is-dense-spec =
+    tie.close (tie.spec (λ c κs. search needs) (λ c κs. search needs) returns (λ c κs. search needs) returns-2)

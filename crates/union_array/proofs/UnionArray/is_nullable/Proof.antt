@@ -9,12 +9,6 @@ use Rattle.union_array.proofs.UnionArray.is_nullable.Tie as tie
 abbrev lent : tie.Start → Buffers
 lent s = let a = s .args in buffersOf (a .type-ids .now) (a .offsets .now) (a .values .now) (a .masks .now) (a .names .now)
 
-ask-requires : tie.Need-ask-requires
-ask-requires c κs = search needs
-
-no-flag-requires : tie.Need-no-flag-requires
-no-flag-requires c κs = search needs
-
 returns : tie.Need-returns
 returns c =
     let q = c .before .before in
@@ -35,4 +29,5 @@ returns-2 c =
     nullable-is (s .args .self) (lent s) (q .ask .result) (c .any-null .result) (q .ask .ensures) (c .before .before .if1 .left) (c .any-null .ensures)
 
 pub is-nullable-spec : {M : Type 1} → statement M
-is-nullable-spec = tie.close (tie.spec ask-requires no-flag-requires returns any-null-requires returns-2)
+is-nullable-spec =
+    tie.close (tie.spec (λ c κs. search needs) (λ c κs. search needs) returns any-null-requires returns-2)

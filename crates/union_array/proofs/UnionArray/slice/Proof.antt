@@ -15,25 +15,15 @@ abbrev lent : tie.Start → Buffers
 lent s = let a = s .args in buffersOf (a .type-ids .now) (a .offsets .now) (a .values .now) (a .masks .now) (a .names .now)
 
 abbrev start : tie.After-ask → tie.Start
-start c = c .before .before .before .before
-
-ask-requires : tie.Need-ask-requires
-ask-requires c κs = search needs
-
-no-slice-requires : tie.Need-no-slice-requires
-no-slice-requires c κs = search needs
+start c =
+    let there = c .before .before .before .before in
+    there
 
 returns : tie.Need-returns
 returns c =
     let q = c .before .before in
     let s = start q in
     c .no-slice .ensures ∙ slice-refused (s .args .self) (lent s) (s .args .o) (s .args .n) (q .ask .result) (q .ask .ensures) (c .before .if1 .taken)
-
-part-in-requires : tie.Need-part-in-requires
-part-in-requires c κs = search needs
-
-no-slice-requires-2 : tie.Need-no-slice-requires-2
-no-slice-requires-2 c κs = search needs
 
 returns-2 : tie.Need-returns-2
 returns-2 c =
@@ -66,13 +56,5 @@ returns-3 c =
 
 pub slice-spec : {M : Type 1} → statement M
 slice-spec =
-    tie.close
-    (tie.spec
-    ask-requires
-    no-slice-requires
-    returns
-    part-in-requires
-    no-slice-requires-2
-    returns-2
-    cut-requires
-    returns-3)
+    tie.close (tie.spec (λ c κs. search needs) (λ c κs. search needs) returns (λ c κs. search needs)
+    (λ c κs. search needs) returns-2 cut-requires returns-3)

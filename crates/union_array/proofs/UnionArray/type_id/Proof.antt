@@ -13,7 +13,10 @@ abbrev lent : tie.Start → Buffers
 lent s = let a = s .args in buffersOf (a .type-ids .now) (a .offsets .now) (a .values .now) (a .masks .now) (a .names .now)
 
 abbrev start : tie.After-slot-in-child → tie.Start
-start c = let i = c .before .before .before in i .before .before .before .before
+start c =
+    let i = c .before .before .before in
+    let there = i .before .before .before .before in
+    there
 
 -- slot i's child and its slot in it
 found : (c : tie.After-slot-in-child) → let s = start c in c .slot-in-child .result ≡ childSlotOf (s .args .self) (lent s) (s .args .i)
@@ -25,18 +28,6 @@ found c =
     found-is (s .args .self) (lent s) (s .args .i) (toZ w8 (ofZ w8 x)) (l .look .result) (c .slot-in-child .result)
     (toZ-ofZ {w = w8} {z = x} (record { sfits = i .id-at .ok }) ∙ i .id-at .ensures) (l .look .ensures) (rw (c .before .head-of .ensures) at (c .slot-in-child .ensures))
 
-id-at-requires : tie.Need-id-at-requires
-id-at-requires c κs = search needs
-
-look-requires : tie.Need-look-requires
-look-requires c κs = search needs
-
-head-of-requires : tie.Need-head-of-requires
-head-of-requires c κs = search needs
-
-slot-in-child-requires : tie.Need-slot-in-child-requires
-slot-in-child-requires c κs = search needs
-
 returns : tie.Need-returns
 returns c =
     let f = c .before in
@@ -45,4 +36,6 @@ returns c =
     rw (toZ-ofZ {w = w8} {z = t .id} (record { sfits = c .struct-told .given .1 .1 .1 .0 .1 })) (type-id-is (s .args .self) (lent s) (s .args .i) t (found f))
 
 pub type-id-spec : {M : Type 1} → statement M
-type-id-spec = tie.close (tie.spec id-at-requires look-requires head-of-requires slot-in-child-requires returns)
+type-id-spec =
+    tie.close (tie.spec (λ c κs. search needs) (λ c κs. search needs) (λ c κs. search needs) (λ c κs. search needs)
+    returns)

@@ -13,23 +13,13 @@ abbrev lent : tie.Start → Buffers
 lent s = let a = s .args in buffersOf (a .type-ids .now) (a .offsets .now) (a .values .now) (a .masks .now) (a .names .now)
 
 abbrev start : tie.After-ask → tie.Start
-start c = c .before .before .before .before
+start c =
+    let there = c .before .before .before .before in
+    there
 
 -- what is shown lies in lent memory
 within-lent : (c : tie.Else1) → let s = start (c .before) in s .args .self .start + s .args .self .count ≤ length (s .args .type-ids .now)
 within-lent c = let s = start (c .before) in accepted (s .args .self) (lent s) (sym (c .before .ask .ensures) ∙ c .if1 .left) .ids
-
-ask-requires : tie.Need-ask-requires
-ask-requires c κs = search needs
-
-sub-result : tie.Need-sub-result
-sub-result c = search needs
-
-part-result-start : tie.Need-part-result-start
-part-result-start c = search needs
-
-part-result-end : tie.Need-part-result-end
-part-result-end c = search needs
 
 returns : tie.Need-returns
 returns c =
@@ -39,12 +29,6 @@ returns c =
 
 add-end : tie.Need-add-end
 add-end c = omega (arith, within-lent (c .before), start (c .before .before) .good)
-
-sub-result-2 : tie.Need-sub-result-2
-sub-result-2 c = search needs
-
-part-result-start-2 : tie.Need-part-result-start-2
-part-result-start-2 c = search needs
 
 part-result-end-2 : tie.Need-part-result-end-2
 part-result-end-2 c = within-lent (c .before)
@@ -60,15 +44,5 @@ returns-2 c =
 
 pub type-ids-spec : {M : Type 1} → statement M
 type-ids-spec =
-    tie.close
-    (tie.spec
-    ask-requires
-    sub-result
-    part-result-start
-    part-result-end
-    returns
-    add-end
-    sub-result-2
-    part-result-start-2
-    part-result-end-2
-    returns-2)
+    tie.close (tie.spec (λ c κs. search needs) (λ c. search needs) (λ c. search needs) (λ c. search needs) returns
+    add-end (λ c. search needs) (λ c. search needs) part-result-end-2 returns-2)

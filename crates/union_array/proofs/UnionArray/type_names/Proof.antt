@@ -9,12 +9,6 @@ use Rattle.union_array.proofs.UnionArray.type_names.Tie as tie
 abbrev lent : tie.Start → Buffers
 lent s = let a = s .args in buffersOf (a .type-ids .now) (a .offsets .now) (a .values .now) (a .masks .now) (a .names .now)
 
-ask-requires : tie.Need-ask-requires
-ask-requires c κs = search needs
-
-no-type-names-requires : tie.Need-no-type-names-requires
-no-type-names-requires c κs = search needs
-
 returns : tie.Need-returns
 returns c =
     let q = c .before .before in
@@ -34,4 +28,5 @@ returns-2 c =
     names-are (s .args .self) (lent s) (q .ask .result) (c .names-of .result) (q .ask .ensures) (c .before .before .if1 .left) (c .names-of .ensures)
 
 pub type-names-spec : {M : Type 1} → statement M
-type-names-spec = tie.close (tie.spec ask-requires no-type-names-requires returns names-of-requires returns-2)
+type-names-spec =
+    tie.close (tie.spec (λ c κs. search needs) (λ c κs. search needs) returns names-of-requires returns-2)

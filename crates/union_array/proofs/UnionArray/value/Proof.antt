@@ -14,7 +14,10 @@ abbrev lent : tie.Start → Buffers
 lent s = let a = s .args in buffersOf (a .type-ids .now) (a .offsets .now) (a .values .now) (a .masks .now) (a .names .now)
 
 abbrev start : tie.After-slot-in-child → tie.Start
-start c = let i = c .before .before .before in i .before .before .before .before
+start c =
+    let i = c .before .before .before in
+    let there = i .before .before .before .before in
+    there
 
 -- slot i's child and its slot in it
 found : (c : tie.After-slot-in-child) → let s = start c in c .slot-in-child .result ≡ childSlotOf (s .args .self) (lent s) (s .args .i)
@@ -25,21 +28,6 @@ found c =
     let x = i .id-at .result in
     found-is (s .args .self) (lent s) (s .args .i) (toZ w8 (ofZ w8 x)) (l .look .result) (c .slot-in-child .result)
     (toZ-ofZ {w = w8} {z = x} (record { sfits = i .id-at .ok }) ∙ i .id-at .ensures) (l .look .ensures) (rw (c .before .head-of .ensures) at (c .slot-in-child .ensures))
-
-id-at-requires : tie.Need-id-at-requires
-id-at-requires c κs = search needs
-
-look-requires : tie.Need-look-requires
-look-requires c κs = search needs
-
-head-of-requires : tie.Need-head-of-requires
-head-of-requires c κs = search needs
-
-slot-in-child-requires : tie.Need-slot-in-child-requires
-slot-in-child-requires c κs = search needs
-
-no-value-requires : tie.Need-no-value-requires
-no-value-requires c κs = search needs
 
 returns : tie.Need-returns
 returns c =
@@ -67,13 +55,5 @@ returns-2 c =
 
 pub value-spec : {M : Type 1} → statement M
 value-spec =
-    tie.close
-    (tie.spec
-    id-at-requires
-    look-requires
-    head-of-requires
-    slot-in-child-requires
-    no-value-requires
-    returns
-    column-value-requires
-    returns-2)
+    tie.close (tie.spec (λ c κs. search needs) (λ c κs. search needs) (λ c κs. search needs) (λ c κs. search needs)
+    (λ c κs. search needs) returns column-value-requires returns-2)

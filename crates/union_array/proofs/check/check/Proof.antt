@@ -10,13 +10,12 @@ abbrev lent : (c : tie.Start) → Buffers
 lent c = let a = c .args in buffersOf (a .type-ids .now) (a .offsets .now) (a .values .now) (a .masks .now) (a .names .now)
 
 abbrev start : tie.After-ask → tie.Start
-start c = c .before .before .before .before
+start c =
+    let there = c .before .before .before .before in
+    there
 
 none : (c : tie.Else1) → let s = start (c .before) in asked (s .args .a) (lent s) ≡ 0
 none c = sym (c .before .ask .ensures) ∙ c .if1 .left
-
-ask-requires : tie.Need-ask-requires
-ask-requires c κs = search needs
 
 returns : tie.Need-returns
 returns c =
@@ -25,12 +24,17 @@ returns c =
     e ∙ checked-refused (s .args .a) (lent s) (λ z. c .if1 .taken (e ∙ z))
 
 check-slots-requires : tie.Need-check-slots-requires
-check-slots-requires c κs = let s = start (c .before) in readable (s .args .a) (lent s) (none c)
+check-slots-requires c κs =
+    let e = c .before .before in
+    let s = start (e .before) in
+    rw (c .head-of .ensures) (readable (s .args .a) (lent s) (none e))
 
 returns-2 : tie.Need-returns-2
 returns-2 c =
-    let s = start (c .before .before) in
-    c .check-slots .ensures ∙ checked-slots (s .args .a) (lent s) (none (c .before))
+    let h = c .before in
+    let e = h .before .before in
+    let s = start (e .before) in
+    rw (h .head-of .ensures) at (c .check-slots .ensures) ∙ checked-slots (s .args .a) (lent s) (none e)
 
 pub check-spec : {M : Type 1} → statement M
-check-spec = tie.close (tie.spec ask-requires returns check-slots-requires returns-2)
+check-spec = tie.close (tie.spec (λ c κs. search needs) returns (λ c κs. search needs) check-slots-requires returns-2)

@@ -23,12 +23,6 @@ abbrev μ-loop : tie.MeasureT-loop
 loop-holds : tie.Need-loop-holds Inv-loop μ-loop
 loop-holds c = (omega arith, refl)
 
-mul-c : tie.Need-mul-c Inv-loop μ-loop
-mul-c c = search needs
-
-array-copy-out-c : tie.Need-array-copy-out-c Inv-loop μ-loop
-array-copy-out-c c = search needs
-
 null-count-requires : tie.Need-null-count-requires Inv-loop μ-loop
 null-count-requires c κs =
     let l = c .before .before in
@@ -45,12 +39,6 @@ returns c =
     sym (ap not (all-fails (λ c. eqb (nullsIn c (onlyWords (s .args .values .now) (s .args .masks .now))) 0) (s .args .t1) (s .args .fields) (l .loop .j) (omega arith) (omega arith)
     (ne-eqb _ 0 (λ z. c .if1 .taken (n ∙ z)))))
 
-add-j : tie.Need-add-j Inv-loop μ-loop
-add-j c = search needs
-
-loop-less : tie.Need-loop-less Inv-loop μ-loop
-loop-less c = search needs
-
 loop-again : tie.Need-loop-again Inv-loop μ-loop
 loop-again c =
     let l = c .before .before .before .before .before in
@@ -63,22 +51,12 @@ loop-again c =
 
 returns-2 : tie.Need-returns-2 Inv-loop μ-loop
 returns-2 c =
+    let start = c .before .before .before .before in
     let l = c .before in
-    let e : l .loop .j ≡ c .before .before .before .before .args .fields = omega arith in
+    let e : l .loop .j ≡ start .args .fields = omega arith in
     sym (ap not (rw e at (l .loop .inv .1)))
 
 pub any-null-spec : {M : Type 1} → statement M
 any-null-spec =
-    tie.close
-    (tie.spec
-    Inv-loop
-    μ-loop
-    loop-holds
-    mul-c
-    array-copy-out-c
-    null-count-requires
-    returns
-    add-j
-    loop-less
-    loop-again
-    returns-2)
+    tie.close (tie.spec Inv-loop μ-loop loop-holds (λ c. search needs) (λ c. search needs) null-count-requires returns
+    (λ c. search needs) (λ c. search needs) loop-again returns-2)

@@ -6,15 +6,6 @@ use Rattle.union_array.proofs.OnePass.{asked-of}
 use Rattle.union_array.proofs.questions.ask.Statement.{statement}
 use Rattle.union_array.proofs.questions.ask.Tie as tie
 
-amounts-requires : tie.Need-amounts-requires
-amounts-requires c κs = search needs
-
-head-of-requires : tie.Need-head-of-requires
-head-of-requires c κs = search needs
-
-look-in-requires : tie.Need-look-in-requires
-look-in-requires c κs = search needs
-
 returns : tie.Need-returns
 returns c =
     let h = c .before in
@@ -23,4 +14,4 @@ returns c =
     ∙ sym (asked-of (a .a) (buffersOf (a .type-ids .now) (a .offsets .now) (a .values .now) (a .masks .now) (a .names .now)))
 
 pub ask-spec : {M : Type 1} → statement M
-ask-spec = tie.close (tie.spec amounts-requires head-of-requires look-in-requires returns)
+ask-spec = tie.close (tie.spec (λ c κs. search needs) (λ c κs. search needs) (λ c κs. search needs) returns)

@@ -9,15 +9,6 @@ use Rattle.union_array.proofs.questions.look.Tie as tie
 abbrev lent : tie.Start → Buffers
 lent s = let a = s .args in buffersOf (a .type-ids .now) (a .offsets .now) (a .values .now) (a .masks .now) (a .names .now)
 
-amounts-requires : tie.Need-amounts-requires
-amounts-requires c κs = search needs
-
-head-of-requires : tie.Need-head-of-requires
-head-of-requires c κs = search needs
-
-look-in-requires : tie.Need-look-in-requires
-look-in-requires c κs = search needs
-
 returns : tie.Need-returns
 returns c =
     let h = c .before in
@@ -25,4 +16,4 @@ returns c =
     rw (h .head-of .ensures, h .before .amounts .ensures, toZ-ofZ (s .fits .id)) at (c .look-in .ensures) ∙ look-is (s .args .a) (lent s) (s .args .id)
 
 pub look-spec : {M : Type 1} → statement M
-look-spec = tie.close (tie.spec amounts-requires head-of-requires look-in-requires returns)
+look-spec = tie.close (tie.spec (λ c κs. search needs) (λ c κs. search needs) (λ c κs. search needs) returns)

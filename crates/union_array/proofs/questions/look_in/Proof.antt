@@ -21,29 +21,11 @@ told c =
     (h .head-fault .ensures)
     (c .first-no .ensures)
 
-refused-requires : tie.Need-refused-requires
-refused-requires c κs = search needs
-
 returns : tie.Need-returns
 returns c =
     let a = c .before .before .before .args in
     c .refused .ensures
     ∙ look-refused (arrayOf (a .h) (a .columns)) (a .lent) (a .id) 1 (asked-many (a .h) (a .columns) (a .lent) (c .before .if1 .taken)) (λ z. omega arith)
-
-is-dense-requires : tie.Need-is-dense-requires
-is-dense-requires c κs = search needs
-
-pass-requires : tie.Need-pass-requires
-pass-requires c κs = search needs
-
-head-fault-requires : tie.Need-head-fault-requires
-head-fault-requires c κs = search needs
-
-first-no-requires : tie.Need-first-no-requires
-first-no-requires c κs = search needs
-
-refused-requires-2 : tie.Need-refused-requires-2
-refused-requires-2 c κs = search needs
 
 returns-2 : tie.Need-returns-2
 returns-2 c =
@@ -63,14 +45,5 @@ returns-3 c =
 
 pub look-in-spec : {M : Type 1} → statement M
 look-in-spec =
-    tie.close
-    (tie.spec
-    refused-requires
-    returns
-    is-dense-requires
-    pass-requires
-    head-fault-requires
-    first-no-requires
-    refused-requires-2
-    returns-2
-    returns-3)
+    tie.close (tie.spec (λ c κs. search needs) returns (λ c κs. search needs) (λ c κs. search needs)
+    (λ c κs. search needs) (λ c κs. search needs) (λ c κs. search needs) returns-2 returns-3)

@@ -2,11 +2,8 @@ use borrow.Author.Needs.{needs}
 use Rattle.union_array.proofs.questions.refused.Statement.{statement}
 use Rattle.union_array.proofs.questions.refused.Tie as tie
 
-no-column-requires : tie.Need-no-column-requires
-no-column-requires c κs = search needs
-
 returns : tie.Need-returns
 returns c = rw (c .no-column .ensures)
 
 pub refused-spec : {M : Type 1} → statement M
-refused-spec = tie.close (tie.spec no-column-requires returns)
+refused-spec = tie.close (tie.spec (λ c κs. search needs) returns)

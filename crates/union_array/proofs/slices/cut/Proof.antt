@@ -13,26 +13,13 @@ Inv-loop a o n s₀ j₀ s j = (j ≤ a .fields) × (s ≡ slicedTo a o n Sparse
 abbrev μ-loop : tie.MeasureT-loop
 μ-loop a o n s₀ j₀ s j = a .fields - j
 
-add-s : tie.Need-add-s Inv-loop μ-loop
-add-s c = search needs
-
 enum-told : tie.Need-enum-told Inv-loop μ-loop
 enum-told c = search needs
 
 add-s-2 : tie.Need-add-s-2 Inv-loop μ-loop
-add-s-2 c = omega (arith, c .before .before .before .before .pre .0 .offsets (c .before .enum-told .given .1))
-
-enum-told-2 : tie.Need-enum-told-2 Inv-loop μ-loop
-enum-told-2 c = search needs
-
-loop-holds : tie.Need-loop-holds Inv-loop μ-loop
-loop-holds c = search needs
-
-mul-c : tie.Need-mul-c Inv-loop μ-loop
-mul-c c = search needs
-
-element-copy-out-c : tie.Need-element-copy-out-c Inv-loop μ-loop
-element-copy-out-c c = search needs
+add-s-2 c =
+    let start = c .before .before .before .before in
+    omega (arith, start .pre .0 .offsets (c .before .enum-told .given .1))
 
 move-column-requires : tie.Need-move-column-requires Inv-loop μ-loop
 move-column-requires c κs =
@@ -40,18 +27,6 @@ move-column-requires c κs =
     let t = c .before .before .before .before .before .before .before in
     rw (column-at (t .args .a) (t .args .o) (t .args .n) (l .loop .s) (l .loop .j) (l .loop .inv .1))
     (t .pre .0 .columns (l .before .enum-told2 .given .1) (l .loop .j) (omega arith), t .pre .1)
-
-mul-t11 : tie.Need-mul-t11 Inv-loop μ-loop
-mul-t11 c = search needs
-
-element-set-from-s : tie.Need-element-set-from-s Inv-loop μ-loop
-element-set-from-s c = search needs
-
-add-j : tie.Need-add-j Inv-loop μ-loop
-add-j c = search needs
-
-loop-less : tie.Need-loop-less Inv-loop μ-loop
-loop-less c = search needs
 
 loop-again : tie.Need-loop-again Inv-loop μ-loop
 loop-again c =
@@ -73,22 +48,6 @@ returns-2 c =
 
 pub cut-spec : {M : Type 1} → statement M
 cut-spec =
-    tie.close
-    (tie.spec
-    Inv-loop
-    μ-loop
-    add-s
-    enum-told
-    add-s-2
-    enum-told-2
-    loop-holds
-    mul-c
-    element-copy-out-c
-    move-column-requires
-    mul-t11
-    element-set-from-s
-    add-j
-    loop-less
-    loop-again
-    returns
-    returns-2)
+    tie.close (tie.spec Inv-loop μ-loop (λ c. search needs) enum-told add-s-2 (λ c. search needs) (λ c. search needs)
+    (λ c. search needs) (λ c. search needs) move-column-requires (λ c. search needs) (λ c. search needs)
+    (λ c. search needs) (λ c. search needs) loop-again returns returns-2)

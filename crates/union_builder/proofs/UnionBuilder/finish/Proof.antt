@@ -8,21 +8,12 @@ use Rattle.union_builder.proofs.Finishing.{describable, finish-refused,
 use Rattle.union_builder.proofs.UnionBuilder.finish.Statement.{statement}
 use Rattle.union_builder.proofs.UnionBuilder.finish.Tie as tie
 
-amounts-requires : tie.Need-amounts-requires
-amounts-requires c κs = search needs
-
-open-checked-requires : tie.Need-open-checked-requires
-open-checked-requires c κs = search needs
-
 described-requires : tie.Need-described-requires
 described-requires c κs =
     let s = c .before .before in
     let a = s .before .before .before .args in
     let m = buffersOf (a .type-ids .now) (a .offsets .now) (a .values .now) (a .masks .now) (a .names .now) in
     λ e. describable (a .self) (amountsOf m) (open-checked (a .self) (amountsOf m) (sym (c .open-checked .ensures ∙ ap (openChecked (a .self)) (c .before .amounts .ensures)) ∙ e))
-
-emptied-requires : tie.Need-emptied-requires
-emptied-requires c κs = search needs
 
 returns : tie.Need-returns
 returns c =
@@ -45,4 +36,6 @@ returns-2 c =
     finish-refused (a .self) m (d .described .result) (n .result) (d .described .ensures) (n .ensures ∙ ap (openChecked (a .self)) (l .ensures)) (c .if1 .left)
 
 pub finish-spec : {M : Type 1} → statement M
-finish-spec = tie.close (tie.spec amounts-requires open-checked-requires described-requires emptied-requires returns returns-2)
+finish-spec =
+    tie.close (tie.spec (λ c κs. search needs) (λ c κs. search needs) described-requires (λ c κs. search needs)
+    returns returns-2)

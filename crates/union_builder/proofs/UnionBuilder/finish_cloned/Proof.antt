@@ -7,12 +7,6 @@ use Rattle.union_builder.proofs.Finishing.{describable, cloned-is}
 use Rattle.union_builder.proofs.UnionBuilder.finish_cloned.Statement.{statement}
 use Rattle.union_builder.proofs.UnionBuilder.finish_cloned.Tie as tie
 
-amounts-requires : tie.Need-amounts-requires
-amounts-requires c κs = search needs
-
-builder-checked-requires : tie.Need-builder-checked-requires
-builder-checked-requires c κs = search needs
-
 described-requires : tie.Need-described-requires
 described-requires c κs =
     let s = c .before .before in
@@ -30,4 +24,4 @@ returns c =
     cloned-is (a .self) m (c .described .result) (n .result) (c .described .ensures) (n .ensures ∙ ap (builderChecked (a .self)) (l .ensures))
 
 pub finish-cloned-spec : {M : Type 1} → statement M
-finish-cloned-spec = tie.close (tie.spec amounts-requires builder-checked-requires described-requires returns)
+finish-cloned-spec = tie.close (tie.spec (λ c κs. search needs) (λ c κs. search needs) described-requires returns)

@@ -7,15 +7,6 @@ use Rattle.union_builder.proofs.Making.{made-yes, made-no}
 use Rattle.union_builder.proofs.builder.made.Statement.{statement}
 use Rattle.union_builder.proofs.builder.made.Tie as tie
 
-empty-builder-requires : tie.Need-empty-builder-requires
-empty-builder-requires c κs = search needs
-
-amounts-requires : tie.Need-amounts-requires
-amounts-requires c κs = search needs
-
-builder-checked-requires : tie.Need-builder-checked-requires
-builder-checked-requires c κs = search needs
-
 returns : tie.Need-returns
 returns c =
     let n = c .before .builder-checked in
@@ -26,9 +17,6 @@ returns c =
     let a = s .before .args in
     let m = buffersOf (a .type-ids .now) (a .offsets .now) (a .values .now) (a .masks .now) (a .names .now) in
     made-yes (a .layout) (a .capacity) (a .limit) m (e .result) (e .ensures) (n .result) (n .ensures ∙ ap (builderChecked (e .result)) (l .ensures)) (c .if1 .taken)
-
-empty-builder-requires-2 : tie.Need-empty-builder-requires-2
-empty-builder-requires-2 c κs = search needs
 
 returns-2 : tie.Need-returns-2
 returns-2 c =
@@ -44,11 +32,5 @@ returns-2 c =
 
 pub made-spec : {M : Type 1} → statement M
 made-spec =
-    tie.close
-    (tie.spec
-    empty-builder-requires
-    amounts-requires
-    builder-checked-requires
-    returns
-    empty-builder-requires-2
-    returns-2)
+    tie.close (tie.spec (λ c κs. search needs) (λ c κs. search needs) (λ c κs. search needs) returns
+    (λ c κs. search needs) returns-2)

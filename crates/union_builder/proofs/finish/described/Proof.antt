@@ -8,16 +8,10 @@ use Rattle.union_builder.proofs.Finishing.{described-is, described-no, 
 use Rattle.union_builder.proofs.finish.described.Statement.{statement}
 use Rattle.union_builder.proofs.finish.described.Tie as tie
 
-blank-requires : tie.Need-blank-requires
-blank-requires c κs = search needs
-
 returns : tie.Need-returns
 returns c =
     let a = c .before .before .before .args in
     described-no (a .b) (a .refusal) (onlyNames (a .names .now)) (c .blank .result) (c .before .if1 .taken) (c .blank .ensures)
-
-head-of-requires : tie.Need-head-of-requires
-head-of-requires c κs = search needs
 
 describe-requires : tie.Need-describe-requires
 describe-requires c κs = let e = c .before .before in rw (c .head-of .ensures) (e .before .before .pre (e .if1 .left))
@@ -31,4 +25,5 @@ returns-2 c =
     (c .describe .ensures ∙ ap (λ (g : BuilderHead). describedBy g (a .b .columns) (a .names .now)) (h .ensures) ∙ described-is (a .b) (a .names .now))
 
 pub described-spec : {M : Type 1} → statement M
-described-spec = tie.close (tie.spec blank-requires returns head-of-requires describe-requires returns-2)
+described-spec =
+    tie.close (tie.spec (λ c κs. search needs) returns (λ c κs. search needs) describe-requires returns-2)

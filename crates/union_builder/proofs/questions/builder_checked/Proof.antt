@@ -5,9 +5,10 @@ use native.Mathlib.Omega.{arith}
 use borrow.Author.Needs.{needs}
 use Rattle.bitmap.specs.Lists.{every}
 use Rattle.union_builder.specs.Builder.{UnionBuilder, columnFits}
-use Rattle.union_builder.specs.Finding.{numbersFit}
+use Rattle.builder_appends.specs.Questions.{numbersFit}
+use Rattle.builder_appends.proofs.Asking.{numbers-yes}
 use Rattle.builder_columns.proofs.Tests.{denied, granted}
-use Rattle.union_builder.proofs.Asking.{fits-every, no-numbers, no-columns, then-lent, numbers-yes}
+use Rattle.union_builder.proofs.Asking.{fits-every, no-numbers, no-columns, then-lent}
 use Rattle.union_builder.proofs.questions.builder_checked.Statement.{statement}
 use Rattle.union_builder.proofs.questions.builder_checked.Tie as tie
 
@@ -19,9 +20,6 @@ numbers c = granted (c .before .numbers-fit .ensures) (c .if1 .left)
 
 columns : (c : tie.Else2) → every (builder (c .before .before .before) .count) (columnFits (builder (c .before .before .before))) ≡ true
 columns c = sym (fits-every (builder (c .before .before .before))) ∙ granted (c .before .columns-fit .ensures) (c .if2 .left)
-
-numbers-fit-requires : tie.Need-numbers-fit-requires
-numbers-fit-requires c κs = search needs
 
 returns : tie.Need-returns
 returns c = let a = c .before .before .args in no-numbers (a .b) (a .lent) (denied (c .before .numbers-fit .ensures) (c .if1 .taken))
@@ -51,12 +49,5 @@ returns-4 c =
 
 pub builder-checked-spec : {M : Type 1} → statement M
 builder-checked-spec =
-    tie.close
-    (tie.spec
-    numbers-fit-requires
-    returns
-    columns-fit-requires
-    returns-2
-    lent-fits-requires
-    returns-3
+    tie.close (tie.spec (λ c κs. search needs) returns columns-fit-requires returns-2 lent-fits-requires returns-3
     returns-4)

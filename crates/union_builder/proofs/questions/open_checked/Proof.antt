@@ -5,11 +5,8 @@ use Rattle.union_builder.proofs.Asking.{open-is}
 use Rattle.union_builder.proofs.questions.open_checked.Statement.{statement}
 use Rattle.union_builder.proofs.questions.open_checked.Tie as tie
 
-builder-checked-requires : tie.Need-builder-checked-requires
-builder-checked-requires c κs = search needs
-
 returns : tie.Need-returns
 returns c = c .builder-checked .ensures ∙ open-is _ _
 
 pub open-checked-spec : {M : Type 1} → statement M
-open-checked-spec = tie.close (tie.spec builder-checked-requires returns)
+open-checked-spec = tie.close (tie.spec (λ c κs. search needs) returns)

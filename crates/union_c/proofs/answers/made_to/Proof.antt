@@ -2,11 +2,8 @@ use borrow.Author.Needs.{needs}
 use Rattle.union_c.proofs.answers.made_to.Statement.{statement}
 use Rattle.union_c.proofs.answers.made_to.Tie as tie
 
-builder-to-requires : tie.Need-builder-to-requires
-builder-to-requires c κs = search needs
-
 returns : tie.Need-returns
 returns c = rw (c .builder-to .ensures)
 
 pub made-to-spec : {M : Type 1} → statement M
-made-to-spec = tie.close (tie.spec builder-to-requires returns)
+made-to-spec = tie.close (tie.spec (λ c κs. search needs) returns)

@@ -16,42 +16,12 @@ Inv-loop a columns₀ n k₀ columns k = (k ≤ n) × (n ≤ 128) × (n ≡ entr
 abbrev μ-loop : tie.MeasureT-loop
 μ-loop a columns₀ n k₀ columns k = n - k
 
-no-column-requires : tie.Need-no-column-requires Inv-loop μ-loop
-no-column-requires c κs = search needs
-
-column-to-requires : tie.Need-column-to-requires Inv-loop μ-loop
-column-to-requires c κs = search needs
-
-in-use-requires : tie.Need-in-use-requires Inv-loop μ-loop
-in-use-requires c κs = search needs
-
 loop-holds : tie.Need-loop-holds Inv-loop μ-loop
 loop-holds c =
     let s = c .before .before .before in
     let a = s .args .t1 in
     let e = c .in-use .ensures in
     (omega arith, rw e (in-use-most (a .fields)), e, refl, first-none columnTo (a .columns) _)
-
-mul-e : tie.Need-mul-e Inv-loop μ-loop
-mul-e c = omega arith
-
-element-copy-out-e : tie.Need-element-copy-out-e Inv-loop μ-loop
-element-copy-out-e c = omega arith
-
-column-to-requires-2 : tie.Need-column-to-requires-2 Inv-loop μ-loop
-column-to-requires-2 c κs = search needs
-
-mul-columns : tie.Need-mul-columns Inv-loop μ-loop
-mul-columns c = omega arith
-
-array-set-from-columns : tie.Need-array-set-from-columns Inv-loop μ-loop
-array-set-from-columns c = omega arith
-
-add-k : tie.Need-add-k Inv-loop μ-loop
-add-k c = omega arith
-
-loop-less : tie.Need-loop-less Inv-loop μ-loop
-loop-less c = omega arith
 
 loop-again : tie.Need-loop-again Inv-loop μ-loop
 loop-again c =
@@ -61,9 +31,6 @@ loop-again c =
     let full : length (a .columns) ≡ 128 = sym (length-map (a .columns) _) ∙ s .good .0 .1 .1 .0 .1 .0 .1 in
     let i = l .loop .inv in
     (omega arith, i .1, i .2, i .3, first-turn columnTo noColumn (a .columns) _ (l .loop .columns) (l .loop .k) (c .column-to2 .result) (i .4) (c .column-to2 .ensures) (omega arith) (omega arith))
-
-layout-to-requires : tie.Need-layout-to-requires Inv-loop μ-loop
-layout-to-requires c κs = search needs
 
 returns : tie.Need-returns Inv-loop μ-loop
 returns c =
@@ -78,21 +45,6 @@ returns c =
 
 pub array-to-spec : {M : Type 1} → statement M
 array-to-spec =
-    tie.close
-    (tie.spec
-    Inv-loop
-    μ-loop
-    no-column-requires
-    column-to-requires
-    in-use-requires
-    loop-holds
-    mul-e
-    element-copy-out-e
-    column-to-requires-2
-    mul-columns
-    array-set-from-columns
-    add-k
-    loop-less
-    loop-again
-    layout-to-requires
-    returns)
+    tie.close (tie.spec Inv-loop μ-loop (λ c κs. search needs) (λ c κs. search needs) (λ c κs. search needs)
+    loop-holds (λ c. omega arith) (λ c. omega arith) (λ c κs. search needs) (λ c. omega arith) (λ c. omega arith)
+    (λ c. omega arith) (λ c. omega arith) loop-again (λ c κs. search needs) returns)

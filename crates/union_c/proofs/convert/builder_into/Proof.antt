@@ -16,9 +16,6 @@ Inv-loop b columns₀ n k₀ columns k = (k ≤ n) × (n ≤ 128) × (n ≡ entr
 abbrev μ-loop : tie.MeasureT-loop
 μ-loop b columns₀ n k₀ columns k = n - k
 
-in-use-requires : tie.Need-in-use-requires Inv-loop μ-loop
-in-use-requires c κs = search needs
-
 loop-holds : tie.Need-loop-holds Inv-loop μ-loop
 loop-holds c =
     let s = c .before .before in
@@ -26,27 +23,6 @@ loop-holds c =
     let e = c .in-use .ensures in
     let full : length (s .args .c .columns) ≡ 128 = sym (length-map (s .args .c .columns) _) ∙ s .good .0 .1 .1 .0 .1 .0 .1 in
     (omega arith, rw e (in-use-most (a .count)), e, full, first-none builderColumnTo (a .columns) _)
-
-mul-e : tie.Need-mul-e Inv-loop μ-loop
-mul-e c = omega arith
-
-element-copy-out-e : tie.Need-element-copy-out-e Inv-loop μ-loop
-element-copy-out-e c = omega arith
-
-builder-column-to-requires : tie.Need-builder-column-to-requires Inv-loop μ-loop
-builder-column-to-requires c κs = search needs
-
-mul-columns : tie.Need-mul-columns Inv-loop μ-loop
-mul-columns c = omega arith
-
-array-set-from-columns : tie.Need-array-set-from-columns Inv-loop μ-loop
-array-set-from-columns c = omega arith
-
-add-k : tie.Need-add-k Inv-loop μ-loop
-add-k c = omega arith
-
-loop-less : tie.Need-loop-less Inv-loop μ-loop
-loop-less c = omega arith
 
 loop-again : tie.Need-loop-again Inv-loop μ-loop
 loop-again c =
@@ -56,9 +32,6 @@ loop-again c =
     let full : length (a .columns) ≡ 128 = sym (length-map (a .columns) _) ∙ s .good .1 .0 .1 .1 .0 .1 .0 .1 in
     let i = l .loop .inv in
     (omega arith, i .1, i .2, i .3, first-turn builderColumnTo noBuilderColumn (a .columns) _ (l .loop .columns) (l .loop .k) (c .builder-column-to .result) (i .4) (c .builder-column-to .ensures) (omega arith) (omega arith))
-
-layout-to-requires : tie.Need-layout-to-requires Inv-loop μ-loop
-layout-to-requires c κs = search needs
 
 returns : tie.Need-returns Inv-loop μ-loop
 unfolding builderInto
@@ -72,19 +45,6 @@ returns c =
 
 pub builder-into-spec : {M : Type 1} → statement M
 builder-into-spec =
-    tie.close
-    (tie.spec
-    Inv-loop
-    μ-loop
-    in-use-requires
-    loop-holds
-    mul-e
-    element-copy-out-e
-    builder-column-to-requires
-    mul-columns
-    array-set-from-columns
-    add-k
-    loop-less
-    loop-again
-    layout-to-requires
-    returns)
+    tie.close (tie.spec Inv-loop μ-loop (λ c κs. search needs) loop-holds (λ c. omega arith) (λ c. omega arith)
+    (λ c κs. search needs) (λ c. omega arith) (λ c. omega arith) (λ c. omega arith) (λ c. omega arith) loop-again
+    (λ c κs. search needs) returns)

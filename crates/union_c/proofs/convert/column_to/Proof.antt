@@ -4,14 +4,8 @@ use borrow.Author.Needs.{needs}
 use Rattle.union_c.proofs.convert.column_to.Statement.{statement}
 use Rattle.union_c.proofs.convert.column_to.Tie as tie
 
-kind-number-requires : tie.Need-kind-number-requires
-kind-number-requires c κs = search needs
-
-flag-number-requires : tie.Need-flag-number-requires
-flag-number-requires c κs = search needs
-
 returns : tie.Need-returns
 returns c = rw (c .before .before .kind-number .ensures, c .before .flag-number .ensures, toZ-ofZ {w = w8} {z = c .before .before .before .args .column .id} (record { sfits = c .struct-told .given .1 .1 .1 .1 .1 .1 .0 .1 }))
 
 pub column-to-spec : {M : Type 1} → statement M
-column-to-spec = tie.close (tie.spec kind-number-requires flag-number-requires returns)
+column-to-spec = tie.close (tie.spec (λ c κs. search needs) (λ c κs. search needs) returns)

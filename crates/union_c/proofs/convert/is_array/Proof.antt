@@ -37,15 +37,6 @@ returns-2 c =
     let full : length (a .columns) ≡ 128 = sym (length-map (a .columns) _) ∙ s .good .0 .1 .1 .0 .1 .0 .1 in
     rw (lt-ltb (a .layout) 2 (omega arith)) (sym (each-tested ok noCColumn (a .columns) (a .fields) (l .loop .k) (l .loop .inv .1) (λ j h w. omega arith)))
 
-mul-e : tie.Need-mul-e Inv-loop μ-loop
-mul-e c = omega arith
-
-element-copy-out-e : tie.Need-element-copy-out-e Inv-loop μ-loop
-element-copy-out-e c = omega arith
-
-is-case-requires : tie.Need-is-case-requires Inv-loop μ-loop
-is-case-requires c κs = search needs
-
 returns-3 : tie.Need-returns-3 Inv-loop μ-loop
 unfolding isArray
 returns-3 c =
@@ -55,12 +46,6 @@ returns-3 c =
     let full : length (a .columns) ≡ 128 = sym (length-map (a .columns) _) ∙ s .good .0 .1 .1 .0 .1 .0 .1 in
     rw (lt-ltb (a .layout) 2 (omega arith))
     (sym (each-no ok noCColumn (a .columns) (a .fields) (l .loop .k) (omega arith) (omega arith) (sym (c .before .is-case .ensures) ∙ not-true _ (c .if3 .taken))))
-
-add-k : tie.Need-add-k Inv-loop μ-loop
-add-k c = omega arith
-
-loop-less : tie.Need-loop-less Inv-loop μ-loop
-loop-less c = omega arith
 
 loop-again : tie.Need-loop-again Inv-loop μ-loop
 loop-again c =
@@ -79,18 +64,5 @@ returns-4 c =
 
 pub is-array-spec : {M : Type 1} → statement M
 is-array-spec =
-    tie.close
-    (tie.spec
-    Inv-loop
-    μ-loop
-    returns
-    loop-holds
-    returns-2
-    mul-e
-    element-copy-out-e
-    is-case-requires
-    returns-3
-    add-k
-    loop-less
-    loop-again
-    returns-4)
+    tie.close (tie.spec Inv-loop μ-loop returns loop-holds returns-2 (λ c. omega arith) (λ c. omega arith)
+    (λ c κs. search needs) returns-3 (λ c. omega arith) (λ c. omega arith) loop-again returns-4)

@@ -16,33 +16,12 @@ Inv-loop t names₀ count k₀ names k = (k ≤ count) × (count ≤ 128) × (co
 abbrev μ-loop : tie.MeasureT-loop
 μ-loop t names₀ count k₀ names k = count - k
 
-in-use-requires : tie.Need-in-use-requires Inv-loop μ-loop
-in-use-requires c κs = search needs
-
 loop-holds : tie.Need-loop-holds Inv-loop μ-loop
 loop-holds c =
     let s = c .before in
     let a = s .args .t1 in
     let e = c .in-use .ensures in
     (omega arith, rw e (in-use-most (a .count)), e, refl, first-none nameTo (a .names) _)
-
-mul-n : tie.Need-mul-n Inv-loop μ-loop
-mul-n c = omega arith
-
-element-copy-out-n : tie.Need-element-copy-out-n Inv-loop μ-loop
-element-copy-out-n c = omega arith
-
-mul-names : tie.Need-mul-names Inv-loop μ-loop
-mul-names c = omega arith
-
-array-set-from-names : tie.Need-array-set-from-names Inv-loop μ-loop
-array-set-from-names c = omega arith
-
-add-k : tie.Need-add-k Inv-loop μ-loop
-add-k c = omega arith
-
-loop-less : tie.Need-loop-less Inv-loop μ-loop
-loop-less c = omega arith
 
 loop-again : tie.Need-loop-again Inv-loop μ-loop
 loop-again c =
@@ -65,17 +44,5 @@ returns c =
 
 pub type-names-to-spec : {M : Type 1} → statement M
 type-names-to-spec =
-    tie.close
-    (tie.spec
-    Inv-loop
-    μ-loop
-    in-use-requires
-    loop-holds
-    mul-n
-    element-copy-out-n
-    mul-names
-    array-set-from-names
-    add-k
-    loop-less
-    loop-again
-    returns)
+    tie.close (tie.spec Inv-loop μ-loop (λ c κs. search needs) loop-holds (λ c. omega arith) (λ c. omega arith)
+    (λ c. omega arith) (λ c. omega arith) (λ c. omega arith) (λ c. omega arith) loop-again returns)

@@ -7,27 +7,20 @@ use borrow.Author.Needs.{needs}
 use Rattle.union_ffi.proofs.array.union_array_try_new.Statement.{statement}
 use Rattle.union_ffi.proofs.array.union_array_try_new.Tie as tie
 
-is-array-requires : tie.Need-is-array-requires
-is-array-requires c κs = search needs
-
 returns : tie.Need-returns
 unfolding cTryNew
 returns c =
-    let bad : isArray (c .before .before .before .before .before .args .array) ≡ false = sym (c .before .is-array .ensures) ∙ not-true _ (c .if1 .taken) in
+    let start = c .before .before .before .before .before in
+    let bad : isArray (start .args .array) ≡ false = sym (c .before .is-array .ensures) ∙ not-true _ (c .if1 .taken) in
     rw (bad)
-
-array-from-requires : tie.Need-array-from-requires
-array-from-requires c κs = search needs
-
-try-new-requires : tie.Need-try-new-requires
-try-new-requires c κs = search needs
 
 returns-2 : tie.Need-returns-2
 unfolding cTryNew
 returns-2 c =
-    let good : isArray (c .before .before .before .before .before .before .before .args .array) ≡ true = sym (c .before .before .before .is-array .ensures) ∙ not-false _ (c .before .before .if1 .left) in
+    let start = c .before .before .before .before .before .before .before in
+    let good : isArray (start .args .array) ≡ true = sym (c .before .before .before .is-array .ensures) ∙ not-false _ (c .before .before .if1 .left) in
     rw (good, c .try-new .ensures, c .before .array-from .ensures)
 
 pub union-array-try-new-spec : {M : Type 1} → statement M
 union-array-try-new-spec =
-    tie.close (tie.spec is-array-requires returns array-from-requires try-new-requires returns-2)
+    tie.close (tie.spec (λ c κs. search needs) returns (λ c κs. search needs) (λ c κs. search needs) returns-2)

@@ -9,27 +9,21 @@ use borrow.Author.Needs.{needs}
 use Rattle.union_ffi.proofs.array.union_array_type_id.Statement.{statement}
 use Rattle.union_ffi.proofs.array.union_array_type_id.Tie as tie
 
-is-array-requires : tie.Need-is-array-requires
-is-array-requires c κs = search needs
-
 returns : tie.Need-returns
 unfolding cTypeId
 returns c =
-    let bad : isArray (c .before .before .before .before .before .args .array) ≡ false = sym (c .before .is-array .ensures) ∙ not-true _ (c .if1 .taken) in
+    let start = c .before .before .before .before .before in
+    let bad : isArray (start .args .array) ≡ false = sym (c .before .is-array .ensures) ∙ not-true _ (c .if1 .taken) in
     rw (bad)
-
-array-from-requires : tie.Need-array-from-requires
-array-from-requires c κs = search needs
-
-type-id-requires : tie.Need-type-id-requires
-type-id-requires c κs = search needs
 
 returns-2 : tie.Need-returns-2
 unfolding cTypeId
 returns-2 c =
-    let good : isArray (c .before .before .before .before .before .before .before .before .args .array) ≡ true = sym (c .before .before .before .before .is-array .ensures) ∙ not-false _ (c .before .before .before .if1 .left) in
+    let start = c .before .before .before .before .before .before .before .before in
+    let is-array = c .before .before .before .before .is-array in
+    let good : isArray (start .args .array) ≡ true = sym (is-array .ensures) ∙ not-false _ (c .before .before .before .if1 .left) in
     rw (good, toZ-ofZ {w = w8} {z = c .before .type-id .result .id} (record { sfits = c .struct-told .given .1 .0 .1 }), c .before .type-id .ensures, c .before .before .array-from .ensures)
 
 pub union-array-type-id-spec : {M : Type 1} → statement M
 union-array-type-id-spec =
-    tie.close (tie.spec is-array-requires returns array-from-requires type-id-requires returns-2)
+    tie.close (tie.spec (λ c κs. search needs) returns (λ c κs. search needs) (λ c κs. search needs) returns-2)

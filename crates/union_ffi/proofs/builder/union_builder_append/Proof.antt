@@ -8,9 +8,6 @@ use borrow.Author.Needs.{needs}
 use Rattle.union_ffi.proofs.builder.union_builder_append.Statement.{statement}
 use Rattle.union_ffi.proofs.builder.union_builder_append.Tie as tie
 
-is-builder-requires : tie.Need-is-builder-requires
-is-builder-requires c κs = search needs
-
 returns : tie.Need-returns
 returns c =
     let p = c .before .before .before .before .before .before .args in
@@ -23,56 +20,20 @@ returns-2 c =
     let m = buffersOf (p .type-ids .now) (p .offsets .now) (p .values .now) (p .masks .now) (p .names .now) in
     append-kind (p .builder) m (p .name .now) (p .kind) (some (p .bits)) (sym (c .before .before .is-builder .ensures) ∙ not-false _ (c .before .if1 .left)) (c .if2 .taken)
 
-builder-from-requires : tie.Need-builder-from-requires
-builder-from-requires c κs = search needs
-
-kind-from-requires : tie.Need-kind-from-requires
-kind-from-requires c κs = search needs
-
-append-requires : tie.Need-append-requires
-append-requires c κs = search needs
-
-appended-to-requires : tie.Need-appended-to-requires
-appended-to-requires c κs = search needs
-
-same-length : tie.Need-same-length
-same-length c = search needs
-
-same-length-2 : tie.Need-same-length-2
-same-length-2 c = search needs
-
-same-length-3 : tie.Need-same-length-3
-same-length-3 c = search needs
-
-same-length-4 : tie.Need-same-length-4
-same-length-4 c = search needs
-
-same-length-5 : tie.Need-same-length-5
-same-length-5 c = search needs
-
 returns-3 : tie.Need-returns-3
 returns-3 c =
+    let is-builder = c .before .before .before .before .before .before .before .before .before .before .before .before .before .before .before .before .before .before .before .is-builder in
+    let if1 = c .before .before .before .before .before .before .before .before .before .before .before .before .before .before .before .before .before .before .if1 in
+    let if2 = c .before .before .before .before .before .before .before .before .before .before .before .before .before .before .before .before .before .if2 in
     let p = c .before .before .before .before .before .before .before .before .before .before .before .before .before .before .before .before .before .before .before .before .before .before .before .before .args in
     let m = buffersOf (p .type-ids .now) (p .offsets .now) (p .values .now) (p .masks .now) (p .names .now) in
     let u = c .before .before .before .before .before .before .before .before .before .before .before .before .before .before .before .before .builder-from in
     let k = c .before .before .before .before .before .before .before .before .before .before .before .before .before .before .before .kind-from in
     let r = c .before .before .before .before .before .before .before .before .before .append in
-    append-good (p .builder) m (p .name .now) (p .kind) (some (p .bits)) (sym (c .before .before .before .before .before .before .before .before .before .before .before .before .before .before .before .before .before .before .before .is-builder .ensures) ∙ not-false _ (c .before .before .before .before .before .before .before .before .before .before .before .before .before .before .before .before .before .before .if1 .left)) (omega (arith, c .before .before .before .before .before .before .before .before .before .before .before .before .before .before .before .before .before .if2 .left)) (u .result) (u .ensures) (k .result) (k .ensures) (r .result) _ (r .ensures) (c .appended-to .result) (c .appended-to .ensures)
+    append-good (p .builder) m (p .name .now) (p .kind) (some (p .bits)) (sym (is-builder .ensures) ∙ not-false _ (if1 .left)) (omega (arith, if2 .left)) (u .result) (u .ensures) (k .result) (k .ensures) (r .result) _ (r .ensures) (c .appended-to .result) (c .appended-to .ensures)
 
 pub union-builder-append-spec : {M : Type 1} → statement M
 union-builder-append-spec =
-    tie.close
-    (tie.spec
-    is-builder-requires
-    returns
-    returns-2
-    builder-from-requires
-    kind-from-requires
-    append-requires
-    appended-to-requires
-    same-length
-    same-length-2
-    same-length-3
-    same-length-4
-    same-length-5
-    returns-3)
+    tie.close (tie.spec (λ c κs. search needs) returns returns-2 (λ c κs. search needs) (λ c κs. search needs)
+    (λ c κs. search needs) (λ c κs. search needs) (λ c. search needs) (λ c. search needs) (λ c. search needs)
+    (λ c. search needs) (λ c. search needs) returns-3)

@@ -2,14 +2,8 @@ use borrow.Author.Needs.{needs}
 use Rattle.union_ffi.proofs.builder.union_builder_new_sparse.Statement.{statement}
 use Rattle.union_ffi.proofs.builder.union_builder_new_sparse.Tie as tie
 
-new-sparse-requires : tie.Need-new-sparse-requires
-new-sparse-requires c κs = search needs
-
-made-to-requires : tie.Need-made-to-requires
-made-to-requires c κs = search needs
-
 returns : tie.Need-returns
 returns c = rw (c .made-to .ensures, c .before .new-sparse .ensures)
 
 pub union-builder-new-sparse-spec : {M : Type 1} → statement M
-union-builder-new-sparse-spec = tie.close (tie.spec new-sparse-requires made-to-requires returns)
+union-builder-new-sparse-spec = tie.close (tie.spec (λ c κs. search needs) (λ c κs. search needs) returns)

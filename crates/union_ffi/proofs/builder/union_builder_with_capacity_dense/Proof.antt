@@ -2,15 +2,8 @@ use borrow.Author.Needs.{needs}
 use Rattle.union_ffi.proofs.builder.union_builder_with_capacity_dense.Statement.{statement}
 use Rattle.union_ffi.proofs.builder.union_builder_with_capacity_dense.Tie as tie
 
-with-capacity-dense-requires : tie.Need-with-capacity-dense-requires
-with-capacity-dense-requires c κs = search needs
-
-made-to-requires : tie.Need-made-to-requires
-made-to-requires c κs = search needs
-
 returns : tie.Need-returns
 returns c = rw (c .made-to .ensures, c .before .with-capacity-dense .ensures)
 
 pub union-builder-with-capacity-dense-spec : {M : Type 1} → statement M
-union-builder-with-capacity-dense-spec =
-    tie.close (tie.spec with-capacity-dense-requires made-to-requires returns)
+union-builder-with-capacity-dense-spec = tie.close (tie.spec (λ c κs. search needs) (λ c κs. search needs) returns)

@@ -19,21 +19,6 @@ abbrev μ-loop : tie.MeasureT-loop
 loop-holds : tie.Need-loop-holds Inv-loop μ-loop
 loop-holds c = (search needs, omega arith, refl, paste-zero (c .args .names .now) (c .args .at) (c .args .name .now))
 
-shared-slice-read-names : tie.Need-shared-slice-read-names Inv-loop μ-loop
-shared-slice-read-names c = omega arith
-
-add-names : tie.Need-add-names Inv-loop μ-loop
-add-names c = omega arith
-
-slice-write-names : tie.Need-slice-write-names Inv-loop μ-loop
-slice-write-names c = omega arith
-
-add-i : tie.Need-add-i Inv-loop μ-loop
-add-i c = omega arith
-
-loop-less : tie.Need-loop-less Inv-loop μ-loop
-loop-less c = omega arith
-
 loop-again : tie.Need-loop-again Inv-loop μ-loop
 loop-again c =
     let l = c .before .before in
@@ -57,16 +42,5 @@ returns c =
 
 pub put-name-spec : {M : Type 1} → statement M
 put-name-spec =
-    tie.close
-    (tie.spec
-    Inv-loop
-    μ-loop
-    loop-holds
-    shared-slice-read-names
-    add-names
-    slice-write-names
-    add-i
-    loop-less
-    loop-again
-    same-length
-    returns)
+    tie.close (tie.spec Inv-loop μ-loop loop-holds (λ c. omega arith) (λ c. omega arith) (λ c. omega arith)
+    (λ c. omega arith) (λ c. omega arith) loop-again same-length returns)

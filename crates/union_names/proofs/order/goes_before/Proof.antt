@@ -7,16 +7,10 @@ use borrow.Author.Needs.{needs}
 use Rattle.union_names.proofs.order.goes_before.Statement.{statement}
 use Rattle.union_names.proofs.order.goes_before.Tie as tie
 
-shared-slice-read-m : tie.Need-shared-slice-read-m
-shared-slice-read-m c = search needs
-
 cast-m : tie.Need-cast-m
 cast-m c =
     let s = c .before .before .before in
     omega (arith, s .pre .0 .short (s .args .j) (omega arith))
-
-shared-slice-read-n : tie.Need-shared-slice-read-n
-shared-slice-read-n c = search needs
 
 cast-n : tie.Need-cast-n
 cast-n c =
@@ -33,22 +27,11 @@ name-of-requires-2 c κs =
     let s = c .before .before .before .before .before in
     held-at (s .args .names .now) (s .args .sizes .now) (s .args .k + 1) (s .args .k) (s .pre .0) (omega arith)
 
-name-up-to-requires : tie.Need-name-up-to-requires
-name-up-to-requires c κs = search needs
-
 returns : tie.Need-returns
 returns c =
     c .name-up-to .ensures ∙ ap₂ nameUpTo (c .before .before .name-of .ensures) (c .before .name-of2 .ensures)
 
 pub goes-before-spec : {M : Type 1} → statement M
 goes-before-spec =
-    tie.close
-    (tie.spec
-    shared-slice-read-m
-    cast-m
-    shared-slice-read-n
-    cast-n
-    name-of-requires
-    name-of-requires-2
-    name-up-to-requires
-    returns)
+    tie.close (tie.spec (λ c. search needs) cast-m (λ c. search needs) cast-n name-of-requires name-of-requires-2
+    (λ c κs. search needs) returns)

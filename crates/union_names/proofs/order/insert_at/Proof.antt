@@ -22,21 +22,6 @@ abbrev μ-loop : tie.MeasureT-loop
 loop-holds : tie.Need-loop-holds Inv-loop μ-loop
 loop-holds c = (omega arith, omega arith, refl, refl, shift-none (c .args .order .now) (c .args .k), refl)
 
-sub-order : tie.Need-sub-order Inv-loop μ-loop
-sub-order c = omega arith
-
-slice-read-order : tie.Need-slice-read-order Inv-loop μ-loop
-slice-read-order c = omega arith
-
-slice-write-order : tie.Need-slice-write-order Inv-loop μ-loop
-slice-write-order c = omega arith
-
-sub-i : tie.Need-sub-i Inv-loop μ-loop
-sub-i c = omega arith
-
-loop-less : tie.Need-loop-less Inv-loop μ-loop
-loop-less c = omega arith
-
 loop-again : tie.Need-loop-again Inv-loop μ-loop
 loop-again c =
     let l = c .before .before in
@@ -52,12 +37,6 @@ loop-again c =
       shift-above o₀ o k (omega arith) (v .2) i (omega arith) (omega arith) (v .3) (v .4),
       drop-set-lt (k + 1) o i _ (omega arith) ∙ v .5,
     )
-
-cast-order : tie.Need-cast-order Inv-loop μ-loop
-cast-order c = omega arith
-
-slice-write-order-2 : tie.Need-slice-write-order-2 Inv-loop μ-loop
-slice-write-order-2 c = omega arith
 
 same-length : tie.Need-same-length Inv-loop μ-loop
 same-length c = simp length-set (c .before .loop .inv .2)
@@ -75,18 +54,5 @@ returns c =
 
 pub insert-at-spec : {M : Type 1} → statement M
 insert-at-spec =
-    tie.close
-    (tie.spec
-    Inv-loop
-    μ-loop
-    loop-holds
-    sub-order
-    slice-read-order
-    slice-write-order
-    sub-i
-    loop-less
-    loop-again
-    cast-order
-    slice-write-order-2
-    same-length
-    returns)
+    tie.close (tie.spec Inv-loop μ-loop loop-holds (λ c. omega arith) (λ c. omega arith) (λ c. omega arith)
+    (λ c. omega arith) (λ c. omega arith) loop-again (λ c. omega arith) (λ c. omega arith) same-length returns)

@@ -37,7 +37,9 @@ place-of-requires c κs =
     (held-less (s .args .names .now) (s .args .sizes .now) (s .args .n) (l .loop .k) (s .pre) (omega arith), listed l)
 
 slice-aggregate-insert-at : tie.Need-slice-aggregate-insert-at Inv-loop μ-loop
-slice-aggregate-insert-at c = sym (full (c .before .before .before .before))
+slice-aggregate-insert-at c =
+    let there = c .before .before .before .before in
+    sym (full there)
 
 insert-at-requires : tie.Need-insert-at-requires Inv-loop μ-loop
 insert-at-requires c κs =
@@ -46,12 +48,6 @@ insert-at-requires c κs =
     let few = s .pre .few in
     let le = place-le (s .args .names .now) (s .args .sizes .now) (l .loop .order) (goesBefore (nameBy (s .args .names .now) (s .args .sizes .now)) (l .loop .k)) (l .loop .k) (listed l .room) in
     (omega (arith, c .before .place-of .ensures), omega (arith, full l), omega arith)
-
-add-k : tie.Need-add-k Inv-loop μ-loop
-add-k c = omega arith
-
-loop-less : tie.Need-loop-less Inv-loop μ-loop
-loop-less c = omega arith
 
 loop-again : tie.Need-loop-again Inv-loop μ-loop
 loop-again c =
@@ -74,16 +70,5 @@ returns c =
 
 pub order-of-spec : {M : Type 1} → statement M
 order-of-spec =
-    tie.close
-    (tie.spec
-    Inv-loop
-    μ-loop
-    loop-holds
-    slice-aggregate-place-of
-    place-of-requires
-    slice-aggregate-insert-at
-    insert-at-requires
-    add-k
-    loop-less
-    loop-again
-    returns)
+    tie.close (tie.spec Inv-loop μ-loop loop-holds slice-aggregate-place-of place-of-requires
+    slice-aggregate-insert-at insert-at-requires (λ c. omega arith) (λ c. omega arith) loop-again returns)

@@ -17,9 +17,6 @@ Inv-loop names sizes order k i₀ i =
 abbrev μ-loop : tie.MeasureT-loop
 μ-loop names sizes order k i₀ i = k - i
 
-loop-holds : tie.Need-loop-holds Inv-loop μ-loop
-loop-holds c = (omega arith, omega arith)
-
 shared-slice-read-j : tie.Need-shared-slice-read-j Inv-loop μ-loop
 shared-slice-read-j c =
     let s = c .before .before .before .before .before .before in
@@ -44,12 +41,6 @@ returns c =
     let p = goesBefore (nameBy (s .args .names .now) (s .args .sizes .now)) (s .args .k) in
     place-found p (s .args .order .now) (s .args .k) (l .loop .i) (s .pre .1 .room) (l .loop .inv .1) (omega arith) (sym (c .before .goes-before .ensures) ∙ not-true (c .before .goes-before .result) (c .if1 .taken))
 
-add-i : tie.Need-add-i Inv-loop μ-loop
-add-i c = omega arith
-
-loop-less : tie.Need-loop-less Inv-loop μ-loop
-loop-less c = omega arith
-
 loop-again : tie.Need-loop-again Inv-loop μ-loop
 loop-again c =
     let l = c .before .before .before .before in
@@ -66,16 +57,5 @@ returns-2 c =
 
 pub place-of-spec : {M : Type 1} → statement M
 place-of-spec =
-    tie.close
-    (tie.spec
-    Inv-loop
-    μ-loop
-    loop-holds
-    shared-slice-read-j
-    cast-j
-    goes-before-requires
-    returns
-    add-i
-    loop-less
-    loop-again
-    returns-2)
+    tie.close (tie.spec Inv-loop μ-loop (λ c. (omega arith, omega arith)) shared-slice-read-j cast-j
+    goes-before-requires returns (λ c. omega arith) (λ c. omega arith) loop-again returns-2)

@@ -22,18 +22,6 @@ returns c = too-long _ (omega arith)
 loop-holds : tie.Need-loop-holds Inv-loop μ-loop
 loop-holds c = (search needs, omega arith, omega arith, begun _)
 
-shared-slice-read-next : tie.Need-shared-slice-read-next Inv-loop μ-loop
-shared-slice-read-next c = omega arith
-
-next-requires : tie.Need-next-requires Inv-loop μ-loop
-next-requires c κs = search needs
-
-add-i : tie.Need-add-i Inv-loop μ-loop
-add-i c = omega arith
-
-loop-less : tie.Need-loop-less Inv-loop μ-loop
-loop-less c = omega arith
-
 loop-again : tie.Need-loop-again Inv-loop μ-loop
 loop-again c =
     let l = c .before .before .before .loop in
@@ -44,15 +32,5 @@ returns-2 c = let l = c .before .before .loop in ended _ (l .i) (l .e) (l .inv .
 
 pub name-fits-spec : {M : Type 1} → statement M
 name-fits-spec =
-    tie.close
-    (tie.spec
-    Inv-loop
-    μ-loop
-    returns
-    loop-holds
-    shared-slice-read-next
-    next-requires
-    add-i
-    loop-less
-    loop-again
-    returns-2)
+    tie.close (tie.spec Inv-loop μ-loop returns loop-holds (λ c. omega arith) (λ c κs. search needs)
+    (λ c. omega arith) (λ c. omega arith) loop-again returns-2)

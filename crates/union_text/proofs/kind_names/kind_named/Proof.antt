@@ -16,12 +16,6 @@ abbrev μ-loop : tie.MeasureT-loop
 loop-holds : tie.Need-loop-holds Inv-loop μ-loop
 loop-holds c = (omega arith, from-none (c .before .args .text .now))
 
-kind-from-requires : tie.Need-kind-from-requires Inv-loop μ-loop
-kind-from-requires c κs = tt
-
-kind-name-requires : tie.Need-kind-name-requires Inv-loop μ-loop
-kind-name-requires c κs = tt
-
 slice-aggregate-same-name : tie.Need-slice-aggregate-same-name Inv-loop μ-loop
 slice-aggregate-same-name c = let n = c .before .before in let l = name-few (n .kind-name .result) (n .before .kind-from .result) (n .kind-name .ensures) in let f = name-full (n .kind-name .result) (n .before .kind-from .result) (n .kind-name .ensures) in f
 
@@ -34,12 +28,6 @@ returns c =
     let l = p .before .before .before in
     from-here (l .before .before .args .text .now) (l .loop .n) (omega (arith, p .before .before .loop-test .taken)) (p .before .kind-from .result) (p .before .kind-from .ensures) (p .kind-name .result) (p .kind-name .ensures) _ (l .loop .inv .1) _ (c .before .same-name .ensures) (c .if1 .taken)
 
-add-n : tie.Need-add-n Inv-loop μ-loop
-add-n c = omega arith
-
-loop-less : tie.Need-loop-less Inv-loop μ-loop
-loop-less c = omega arith
-
 loop-again : tie.Need-loop-again Inv-loop μ-loop
 loop-again c =
     let p = c .before .before .before .before in
@@ -51,17 +39,5 @@ returns-2 c = from-end (c .before .before .before .args .text .now) (c .before .
 
 pub kind-named-spec : {M : Type 1} → statement M
 kind-named-spec =
-    tie.close
-    (tie.spec
-    Inv-loop
-    μ-loop
-    loop-holds
-    kind-from-requires
-    kind-name-requires
-    slice-aggregate-same-name
-    same-name-requires
-    returns
-    add-n
-    loop-less
-    loop-again
-    returns-2)
+    tie.close (tie.spec Inv-loop μ-loop loop-holds (λ c κs. tt) (λ c κs. tt) slice-aggregate-same-name
+    same-name-requires returns (λ c. omega arith) (λ c. omega arith) loop-again returns-2)

@@ -1,0 +1,2 @@
+-- The definitions that the contracts of gather_table cite.
+pub mod Table

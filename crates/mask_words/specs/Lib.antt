@@ -1,0 +1,2 @@
+-- The definitions that the contracts of mask_words cite.
+pub mod Steps
