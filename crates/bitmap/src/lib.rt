@@ -1,12 +1,14 @@
 // Bits in 64-bit words: validity masks and selection masks. A mask starts at bit `bit` of word `word`; `bit` may be 64 or more, and
 // then lies in a later word.
+#![tactic(auto)]
+
 ghost use Rattle.std.specs.Prelude.{◌≡◌, ℕ, ◌+◌, ◌-◌, ◌*◌, ◌%◌, ◌^◌, ◌<◌, ◌≤◌, min, T, pos, length, get_or};
 ghost use Rattle.std.specs.Int.Signed.{non_neg};
 ghost use Rattle.bitmap.specs.Bits.{pack, bit_at, set_bit, words_for, chunk_of, nulls_of, null_count_of, is_fully_null, same_id, selections_of};
 ghost use Rattle.bitmap.specs.Counting.{clear_in};
 
 // How many nulls were counted.
-#[derive(Drop)]
+#[derive(Clone, Copy)]
 pub struct NullCount {
     pub nulls: usize,
 }
@@ -27,6 +29,7 @@ pub fn words_for(n: usize) -> usize
 }
 
 // x cut to its n low bits.
+#[tactic(auto, using(crate::proofs::Chunks::cut_word, crate::proofs::Chunks::uncut_word))]
 pub fn low(x: u64, n: usize) -> u64
     requires { n ≤ 64 }
     ensures { result ≡ x % 2 ^ n }
@@ -119,6 +122,7 @@ pub fn null_count(words: &[u64], word: usize, bit: usize, len: usize) -> NullCou
 }
 
 // Whether a mask of `len` bits has no bit set, and is not empty.
+#[tactic(auto, unfolding(crate::specs::Bits::is_fully_null))]
 pub fn is_fully_null(nulls: usize, len: usize) -> bool
     ensures { result ≡ is_fully_null nulls len }
 {
