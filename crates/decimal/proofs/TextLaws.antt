@@ -84,6 +84,7 @@ digits_back base (suc k) n most p q h l =
 -- ---- in the code's own terms
 
 pub turn_left : (base at left rest g : ℕ) (out : List ℕ) → 0 < left → at + left ≤ length out → g ≡ glyph_of (rest % base) → Whole base at left rest out ≡ Whole base at (left - 1) (rest / base) (set out (at + (left - 1)) g)
+turn_left base at zero rest g out p h e = elim p [ ]
 turn_left base at (suc l) rest g out p h e =
     turn_puts base at l rest out h
     ∙ ap (λ (n : ℕ). Whole base at n (rest / base) (set out (at + n) (glyph_of (rest % base)))) (less l)

@@ -35,6 +35,7 @@ fn read_negative(text: &[u8], lowest: u64) -> Bits
 }
 
 // The integer that the text has, if it is from -`lowest` to `highest`, in 64-bit two's complement.
+#[tactic(auto, using(crate::proofs::IntegerLaws::integer_empty, crate::proofs::IntegerLaws::integer_minus, crate::proofs::IntegerLaws::integer_plus, crate::proofs::IntegerLaws::integer_plain))]
 pub fn read_integer(text: &[u8], lowest: u64, highest: u64) -> Bits
     ensures { result ≡ integer_of text.now lowest highest }
 {
