@@ -1,4 +1,6 @@
 // The columns of a union array, below its calls: kinds, presence, values, and what the questions ask of them.
+#![tactic(auto)]
+
 pub mod child_value;
 pub mod kinds;
 pub mod presence;
@@ -6,7 +8,7 @@ pub mod questions;
 pub mod slots;
 
 // The kind of a column's values. One word holds one value, in its low bits.
-#[derive(Drop)]
+#[derive(Clone, Copy)]
 pub enum Kind {
     Int8,
     Int16,
@@ -20,14 +22,14 @@ pub enum Kind {
     Float64,
 }
 
-#[derive(Drop)]
+#[derive(Clone, Copy)]
 pub enum Layout {
     Sparse,
     Dense,
 }
 
 // One entry of the column list: a field and its child.
-#[derive(Drop)]
+#[derive(Clone, Copy)]
 pub struct Column {
     // The first value word.
     pub values: usize,
@@ -45,7 +47,7 @@ pub struct Column {
 }
 
 // How much is lent: type ids, offsets, value words, mask words, name bytes.
-#[derive(Drop)]
+#[derive(Clone, Copy)]
 pub struct Amounts {
     pub ids: usize,
     pub offsets: usize,
@@ -55,7 +57,7 @@ pub struct Amounts {
 }
 
 // What `value` answers.
-#[derive(Drop)]
+#[derive(Clone, Copy)]
 pub struct Value {
     pub bits: u64,
     pub name: [u8; 32],
@@ -67,14 +69,14 @@ pub struct Value {
 }
 
 // A slot's value, 0 when missing, and whether it is missing.
-#[derive(Drop)]
+#[derive(Clone, Copy)]
 pub struct SlotValue {
     pub bits: u64,
     pub missing: bool,
 }
 
 // An array but for its columns.
-#[derive(Drop)]
+#[derive(Clone, Copy)]
 pub struct Head {
     pub fields: usize,
     pub children: usize,
@@ -86,7 +88,7 @@ pub struct Head {
 }
 
 // What a pass tells: the least of 1, 3, 4 and 6 answered no, 7 if there is none, and the column with an id.
-#[derive(Drop)]
+#[derive(Clone, Copy)]
 pub struct Passed {
     pub column: Column,
     pub fault: u8,
