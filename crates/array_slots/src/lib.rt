@@ -1,4 +1,6 @@
 // What is asked and read of many slots, over an array's head and its column list.
+#![tactic(auto)]
+
 pub mod check;
 pub mod lookup;
 pub mod run;
@@ -6,7 +8,7 @@ pub mod run;
 use array_columns::Column;
 
 // What one pass over the columns tells every call: the first no of 1 to 6, and the column with an id.
-#[derive(Drop)]
+#[derive(Clone, Copy)]
 pub struct Looked {
     pub column: Column,
     pub refusal: u8,
@@ -14,7 +16,7 @@ pub struct Looked {
 }
 
 // A slot's child, its slot in it and its type id.
-#[derive(Drop)]
+#[derive(Clone, Copy)]
 pub struct ChildSlot {
     pub column: Column,
     pub slot: usize,

@@ -58,6 +58,7 @@ fn no_child_slot(refusal: u8) -> ChildSlot
 }
 
 // A slot's child and its slot in it, from what was looked up and read for slot i of n.
+#[tactic(auto, unfolding(crate::specs::ChildSlot::settled))]
 fn settle(l: Looked, layout: Layout, n: usize, i: usize, id: i8, offset: i32) -> ChildSlot
     ensures { result ≡ settled l layout n i id offset }
 {
