@@ -1,7 +1,7 @@
 -- Laws of the long division of a fraction, one binary digit a turn, and of its rounding.
 use mathlib.Core.Path.{◌≡◌, refl, sym, ap, ◌∙◌, subst}
 use mathlib.Core.Bool.{not}
-use Prim.Native.Nat.{ℕ, suc, ◌+◌, ◌-◌, ◌*◌, ◌/◌, ◌%◌, ◌^◌, ◌<◌, ◌≤◌, compare, Ordering}
+use Prim.Native.Nat.{ℕ, zero, suc, ◌+◌, ◌-◌, ◌*◌, ◌/◌, ◌%◌, ◌^◌, ◌<◌, ◌≤◌, compare, Ordering}
 use native.Mathlib.Nat.{le_antisymm, mul_comm, mul_assoc, mul_left_comm, mul-add, mul-suc, one-mul, mul-one, mul-le-mul_left, mul-le-mul_right, pow-suc, pow-succ', div-add-mod, mod-lt, mod-eq_of_lt, div-eq_of_lt, mul-add-div, div-div-eq-div-mul, add-mul-mod_self_left, add-zero}
 use native.Mathlib.Numerals.{add-one}
 use native.Mathlib.Omega.{arith}
@@ -120,6 +120,7 @@ one_shifted k h = ap (λ (x : ℕ). x % 2 ^ 64) (one-mul (2 ^ k)) ∙ mod-eq_of_
 
 -- a power of two and its half
 pub two_halves : (k : ℕ) → 0 < k → 2 ^ k ≡ 2 * 2 ^ (k - 1)
+two_halves zero h = elim h [ ]
 two_halves (suc k) h = rw (suc_less k) (pow-succ' 2 k)
   where
     suc_less : (n : ℕ) → suc n - 1 ≡ n
