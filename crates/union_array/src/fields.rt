@@ -132,7 +132,7 @@ impl UnionArray {
         masks: &[u64],
         names: &[u8],
     ) -> &'a [i8]
-        ensures { record { refusal = refusal.exit.now; ids = result.now } ≡ type_ids_of self (buffers_of type_ids.now offsets.now values.now masks.now names.now) }
+        ensures { record { refusal = refusal.new; ids = result.now } ≡ type_ids_of self (buffers_of type_ids.now offsets.now values.now masks.now names.now) }
     {
         let r = questions::ask(self, type_ids, offsets, values, masks, names);
         *refusal = r;

@@ -1,4 +1,6 @@
 // The union array: a description by value over lent memory.
+#![tactic(auto)]
+
 pub mod check;
 mod fields;
 mod lookup;
@@ -9,7 +11,7 @@ pub mod slices;
 use array_columns::{Column, Layout};
 
 // A union array: its column list, and the parts of the lent type ids and offsets that are its own.
-#[derive(Drop)]
+#[derive(Clone, Copy)]
 pub struct UnionArray {
     pub columns: [Column; 128],
     pub fields: usize,
@@ -22,35 +24,35 @@ pub struct UnionArray {
 }
 
 // What `type_id` answers.
-#[derive(Drop)]
+#[derive(Clone, Copy)]
 pub struct TypeId {
     pub refusal: u8,
     pub id: i8,
 }
 
 // What `value_offset` answers.
-#[derive(Drop)]
+#[derive(Clone, Copy)]
 pub struct ValueOffset {
     pub offset: usize,
     pub refusal: u8,
 }
 
 // What `child` answers.
-#[derive(Drop)]
+#[derive(Clone, Copy)]
 pub struct Child {
     pub column: Column,
     pub refusal: u8,
 }
 
 // A name's place in the lent bytes, and its length.
-#[derive(Drop)]
+#[derive(Clone, Copy)]
 pub struct NamePlace {
     pub start: usize,
     pub size: u8,
 }
 
 // What `type_names` answers: the first `count` places, in list order.
-#[derive(Drop)]
+#[derive(Clone, Copy)]
 pub struct TypeNames {
     pub names: [NamePlace; 128],
     pub count: usize,
@@ -58,14 +60,14 @@ pub struct TypeNames {
 }
 
 // What `is_dense` and `is_nullable` answer.
-#[derive(Drop)]
+#[derive(Clone, Copy)]
 pub struct Flag {
     pub refusal: u8,
     pub holds: bool,
 }
 
 // What `slice` answers.
-#[derive(Drop)]
+#[derive(Clone, Copy)]
 pub struct Slice {
     pub array: UnionArray,
     pub refusal: u8,
