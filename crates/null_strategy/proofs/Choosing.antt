@@ -1,5 +1,5 @@
 -- The ways out of the functions that choose a route. Assumes nothing.
-use mathlib.Core.Path.{◌≡◌, refl, sym, ap, ap₂, ◌∙◌, subst}
+use mathlib.Core.Path.{◌≡◌, refl, sym, ap, ◌∙◌, subst}
 use mathlib.Core.Bool.{Bool, true, false, cond, not, ◌&&◌}
 use mathlib.Core.List.{List, [], ◌∷◌}
 use Prim.Native.Nat.{ℕ, zero, suc, ◌-◌, ◌≤◌, ◌<◌}
@@ -13,7 +13,7 @@ use Rattle.array_columns.specs.declared.Layout.TheVariants.{Sparse, Dense}
 use Rattle.union_array.specs.declared.UnionArray.{UnionArray}
 use Rattle.union_array.specs.Types.{no_column, by_layout}
 use Rattle.array_columns.specs.Buffers.{Buffers, only_words}
-use Rattle.union_array.specs.Slots.{in_use, all}
+use Rattle.union_array.specs.Slots.{all}
 use Rattle.null_strategy.specs.Route.{Choice, Route, Absent, OneField, AllNull, Gather, SkipOne, SkipWithoutNulls, SkipFullyNull, cheaper, sparse_route, fully_null, with_nulls, fully_nulls, route_of}
 use Rattle.null_strategy.specs.Fields.{Fields, fields_of, Described}
 use Rattle.null_strategy.proofs.FieldStates.{many_le, some_words, full_words}

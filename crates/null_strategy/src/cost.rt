@@ -14,6 +14,7 @@ impl Processor {
     pub const OTHER: Processor = Processor { cost: 0 };
 
     // The setting of a gather cost.
+    #[tactic(auto, unfolding(crate::specs::Setting::setting_answer, crate::specs::Setting::question12))]
     pub fn new(cost: usize) -> Setting
         ensures { setting_told result ≡ setting_answer cost }
     {
