@@ -1,4 +1,6 @@
 // A builder's columns, below its appends: a column, where an append goes, and what it writes.
+#![tactic(auto)]
+
 pub mod columns;
 pub mod find;
 pub mod fitting;
@@ -9,7 +11,7 @@ pub mod store;
 use array_columns::{Kind, Layout};
 
 // A column that is being built. Its id is its place in the builder.
-#[derive(Drop)]
+#[derive(Clone, Copy)]
 pub struct BuilderColumn {
     pub slots: u32,
     // The name's length in bytes.
@@ -19,7 +21,7 @@ pub struct BuilderColumn {
 }
 
 // A builder but for its columns.
-#[derive(Drop)]
+#[derive(Clone, Copy)]
 pub struct BuilderHead {
     pub capacity: usize,
     pub limit: usize,
@@ -29,7 +31,7 @@ pub struct BuilderHead {
 }
 
 // The first column with a name, if it is known.
-#[derive(Drop)]
+#[derive(Clone, Copy)]
 pub struct Found {
     pub column: BuilderColumn,
     pub id: usize,
@@ -37,7 +39,7 @@ pub struct Found {
 }
 
 // What an append is to do: its column as it is before the new slot, the columns in use after, and whether the name is new.
-#[derive(Drop)]
+#[derive(Clone, Copy)]
 pub struct Plan {
     pub column: BuilderColumn,
     pub id: usize,
