@@ -7,7 +7,7 @@ use Prim.Native.Nat.{ℕ, zero, suc, ◌+◌, ◌≤◌, ◌<◌, suc-le-suc}
 use native.Mathlib.Nat.{not-suc-le-zero, le_of_suc-le-suc, zero-lt-suc}
 use native.Mathlib.Numerals.{add-one}
 use native.Mathlib.Omega.{arith}
-use lib.IntN.{ℤ, nat_abs}
+use lib.IntN.{ℤ}
 use lib.ListN.{get_or, take, drop, length, set, replicate, length-map, length-append, length-replicate}
 use lib.Seq.{take-suc, get_or-take, length-take-le}
 use Rattle.array_columns.specs.declared.Column.{Column}
