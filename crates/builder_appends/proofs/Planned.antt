@@ -28,7 +28,7 @@ use Rattle.builder_columns.specs.Finding.{found_in}
 use Rattle.builder_columns.specs.Planning.{refused_plan, accepted_plan, plan_if, found_plan}
 use Rattle.builder_columns.specs.Writing.{Room, Writable}
 use Rattle.builder_columns.proofs.Plans.{first_slots_le}
-use Rattle.builder_appends.specs.Questions.{Numbers, Lent, Open}
+use Rattle.builder_appends.specs.Questions.{Open}
 use Rattle.builder_appends.specs.Steps.{plan_for}
 use Rattle.builder_appends.proofs.Asking.{then_zero, no_zero}
 

@@ -3,8 +3,7 @@ use mathlib.Core.Path.{◌≡◌, refl, sym, ap, ap₂, ◌∙◌, subst}
 use mathlib.Core.Bool.{Bool, true, false, cond, not}
 use mathlib.Core.Option.{none}
 use mathlib.Core.List.{List}
-use Prim.Native.Nat.{ℕ, ◌+◌, ◌≤◌, ◌<◌}
-use native.Mathlib.Numerals.{add-one}
+use Prim.Native.Nat.{ℕ, ◌≤◌, ◌<◌}
 use native.Mathlib.Omega.{arith}
 use lib.Dec.{eqb}
 use lib.ListN.{length}
@@ -20,9 +19,9 @@ use Rattle.builder_columns.specs.declared.BuilderColumn.{BuilderColumn}
 use Rattle.builder_columns.specs.declared.BuilderHead.{BuilderHead}
 use Rattle.builder_columns.specs.declared.Plan.{Plan}
 use Rattle.builder_columns.specs.Columns.{some_if, is_none, nth_column, grown, grown_by}
-use Rattle.builder_columns.specs.Writing.{written_by, Writable}
+use Rattle.builder_columns.specs.Writing.{written_by}
 use Rattle.builder_appends.specs.Questions.{Open}
-use Rattle.builder_appends.specs.Steps.{Step, accepted_step, refused_step, Steppable, plan_for, Stepped, stepped, planned, append_by}
+use Rattle.builder_appends.specs.Steps.{Step, accepted_step, refused_step, Steppable, plan_for, stepped, planned, append_by}
 use Rattle.builder_appends.proofs.Planned.{Planned, plan_known}
 
 -- ---- a slot of a row
@@ -88,3 +87,11 @@ module _ (n : ℕ) (h : BuilderHead) (cs : List BuilderColumn) (name : List ℕ)
         ∙ sym (ap (λ (k : ℕ). if_yes k (stepped (accepted_step h p present) (written_by h p m name (some_if present word))) (stepped (refused_step h (nth_column cs 0) k present) m)) z)
         ∙ ap (λ (q : Plan). planned h cs q name word present m) ep,
   )
+
+-- a refused append, for a search: its step is told by the plan alone
+pub refused_is_append : (n : ℕ) (h : BuilderHead) (cs : List BuilderColumn) (name : List ℕ) (kind : Kind) (word : ℕ) (present : Bool) (m : Buffers)
+    → ((plan_for n h cs m.names name kind).refusal ≡ 0 → ⊥)
+    → stepped (refused_step h (nth_column cs 0) (plan_for n h cs m.names name kind).refusal present) m ≡ append_by n h cs name kind word present m
+refused_is_append n h cs name kind word present m z =
+    (append_refused n h cs name kind word present m (plan_for n h cs m.names name kind) refl
+    (refused_step h (nth_column cs 0) (plan_for n h cs m.names name kind).refusal present) z refl).1

@@ -1,4 +1,6 @@
 // One append, below the builder: planned, what it adds written, and what it leaves of the builder.
+#![tactic(auto)]
+
 mod planning;
 pub mod questions;
 pub mod readings;
@@ -7,7 +9,7 @@ pub mod steps;
 use builder_columns::BuilderColumn;
 
 // What an append leaves of a builder: its slots and columns in use, the column with an id, and how many columns get a slot after that.
-#[derive(Drop)]
+#[derive(Clone, Copy)]
 pub struct Step {
     pub column: BuilderColumn,
     pub id: usize,
@@ -19,7 +21,7 @@ pub struct Step {
 }
 
 // One reading of a run: where its name lies in the text, its kind and presence by their numbers, and the value's bits.
-#[derive(Drop)]
+#[derive(Clone, Copy)]
 pub struct Reading {
     pub bits: u64,
     pub start: u32,

@@ -56,6 +56,7 @@ pub fn row_column(c: BuilderColumn, k: usize, id: usize, present: bool) -> Build
 }
 
 // Plans an append, and writes what it adds. `checked` is the number that 15 and 16 gave.
+#[tactic(auto, using(crate::proofs::Stepping::refused_is_append))]
 pub(crate) fn append_step(
     h: BuilderHead,
     columns: [BuilderColumn; 128],
