@@ -27,9 +27,8 @@ use Rattle.builder_appends.proofs.Stepping.{append_known}
 use Rattle.builder_appends.proofs.Runs.{cut_short, cut_long}
 use Rattle.union_builder.specs.Builder.{BuilderHead, UnionBuilder, builder_head, column, open_checked, known}
 use Rattle.union_builder.specs.Append.{some_if, cut_to, append_checked, builder_after, buffers_after, AppendOutcome, outcome, appended, append_with}
-use Rattle.union_builder.specs.Finding.{only_names}
 use Rattle.union_builder.proofs.Writing.{Plan}
-use Rattle.union_builder.proofs.Planning.{grown_as, plan_of, appended_of}
+use Rattle.union_builder.proofs.Planning.{grown_as, appended_of}
 use Rattle.union_builder.specs.Appends.{Readings, readings_of, is_reading, reading_of, RunOutcome, run_outcome, appends_step, lengths_match, appends_of}
 use Rattle.union_builder.proofs.Plans.{plan_is}
 use Rattle.union_builder.proofs.Growing.{taken, accepted_after, refused_after, after_full}

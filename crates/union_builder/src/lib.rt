@@ -1,4 +1,6 @@
 // The union builder: its state by value, the memory that it fills lent to each call.
+#![tactic(auto)]
+
 mod append;
 mod appends;
 mod builder;
@@ -11,7 +13,7 @@ use builder_columns::BuilderColumn;
 use union_array::UnionArray;
 
 // A builder of `capacity` slots and at most `limit` columns, with `len` slots and `count` columns so far.
-#[derive(Drop)]
+#[derive(Clone, Copy)]
 pub struct UnionBuilder {
     pub columns: [BuilderColumn; 128],
     pub capacity: usize,
@@ -22,28 +24,28 @@ pub struct UnionBuilder {
 }
 
 // What a making answers.
-#[derive(Drop)]
+#[derive(Clone, Copy)]
 pub struct Made {
     pub builder: UnionBuilder,
     pub refusal: u8,
 }
 
 // What `append`, `append_null` and `appends` answer.
-#[derive(Drop)]
+#[derive(Clone, Copy)]
 pub struct Appended {
     pub builder: UnionBuilder,
     pub refusal: u8,
 }
 
 // What `len` answers.
-#[derive(Drop)]
+#[derive(Clone, Copy)]
 pub struct Length {
     pub builder: UnionBuilder,
     pub len: usize,
 }
 
 // What `finish_cloned` and `finish` answer.
-#[derive(Drop)]
+#[derive(Clone, Copy)]
 pub struct Finished {
     pub builder: UnionBuilder,
     pub array: UnionArray,
