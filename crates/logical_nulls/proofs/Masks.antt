@@ -15,8 +15,7 @@ use Rattle.array_columns.specs.declared.Layout.TheVariants.{Sparse, Dense}
 use Rattle.union_array.specs.declared.UnionArray.{UnionArray}
 use Rattle.union_array.specs.Types.{no_column, by_layout}
 use Rattle.array_columns.specs.Buffers.{Buffers, buffers_of, only_words}
-use Rattle.union_array.specs.Slots.{in_use, child_at, slot_at, present, null_in, slot_null}
-use Rattle.union_array.specs.Questions.{presence_in}
+use Rattle.union_array.specs.Slots.{in_use, child_at, slot_at, null_in, slot_null}
 use Rattle.union_array.specs.Lookup.{or_none}
 use Rattle.array_columns.proofs.Columns.{all_found}
 use Rattle.array_columns.proofs.Present.{present_words, presence_words, presence_accepted}
@@ -25,17 +24,17 @@ use Rattle.null_strategy.specs.declared.Route.{Route}
 use Rattle.null_strategy.specs.Route.{is_absent, is_all_null, fully_null, fully_nulls}
 use Rattle.null_strategy.specs.declared.Fields.{Fields}
 use Rattle.null_strategy.specs.declared.State.{State}
-use Rattle.null_strategy.specs.Fields.{state_of, field_state, in_list}
+use Rattle.null_strategy.specs.Fields.{field_state, in_list}
 use Rattle.null_strategy.proofs.FieldStates.{fields_in, many_all, none_present, is_full, state_words, full_words}
 use Rattle.mask_words.specs.declared.Taken.{Taken}
 use Rattle.mask_words.specs.declared.Taken.TheVariants.{All, WithNulls, NotFull}
 use Rattle.mask_words.specs.declared.TakenFields.{TakenFields}
-use Rattle.mask_words.specs.Steps.{any, takes, taken_of, id_at, selected_at, present_at, skip_one_at, skip_without_at, skip_fully_at, step_at, words_of, in_taken, taken_fields_of, ValidIds, TakenNamed, TakenReady, FieldsReady}
+use Rattle.mask_words.specs.Steps.{takes, taken_of, id_at, selected_at, present_at, skip_one_at, skip_without_at, skip_fully_at, step_at, words_of, in_taken, taken_fields_of, ValidIds, TakenNamed, TakenReady}
 use Rattle.mask_words.proofs.Selecting.{any_ext}
 use Rattle.mask_words.proofs.TakenUp.{in_taken_lem, taken_named, words_need}
 use Rattle.mask_words.proofs.Writing.{words_ext, words_written}
 use Rattle.gather_table.specs.Table.{table_of, child_slot, gathered_at, Gathers}
-use Rattle.logical_nulls.specs.Mask.{LogicalNulls, NullsAnswer, numbers_of, masked, with_words, masked_by, answer_on}
+use Rattle.logical_nulls.specs.Mask.{LogicalNulls, numbers_of, masked, with_words, masked_by, answer_on}
 use Rattle.logical_nulls.specs.Ready.{reads, Ready}
 use Rattle.logical_nulls.proofs.Strategies.{its_child, its_slot, its_bit, step_is}
 use Rattle.logical_nulls.proofs.Entries.{id_ok, gathered_is, gathers}

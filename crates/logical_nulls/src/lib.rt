@@ -1,4 +1,6 @@
 // The null mask of a union array: its strategies, its words.
+#![tactic(auto)]
+
 mod answers;
 pub mod mask;
 pub mod named;
@@ -7,7 +9,7 @@ mod words;
 pub use null_strategy::{Processor, Route, Setting};
 
 // A strategy for the words of a mask; all but Gather are for sparse unions.
-#[derive(Drop)]
+#[derive(Clone, Copy)]
 pub enum SparseStrategy {
     Gather,
     SkipOne,
@@ -16,7 +18,7 @@ pub enum SparseStrategy {
 }
 
 // What the null mask and the named strategies answer, beside the words that they write.
-#[derive(Drop)]
+#[derive(Clone, Copy)]
 pub struct LogicalNulls {
     pub nulls: usize,
     pub refusal: u8,
