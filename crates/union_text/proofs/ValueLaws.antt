@@ -1,14 +1,12 @@
 -- Values as text: the room that a kind's numbers have, and the lengths of their texts. Assumes nothing.
-use mathlib.Core.Path.{◌≡◌, refl, sym, ap, ◌∙◌, subst}
-use mathlib.Core.Bool.{Bool, true, cond}
+use mathlib.Core.Path.{◌≡◌, refl, sym}
 use mathlib.Core.List.{List}
-use Prim.Native.Nat.{ℕ, ◌+◌, ◌*◌, ◌%◌, ◌^◌, ◌≤◌, ◌<◌}
+use Prim.Native.Nat.{ℕ, ◌+◌, ◌*◌, ◌^◌, ◌≤◌, ◌<◌}
 use native.Mathlib.Nat.{mod-lt}
 use native.Mathlib.Omega.{arith}
 use borrow.Author.Tests.{leb-true}
 use lib.Dec.{leb}
 use Rattle.decimal.proofs.TextLaws.{integer_size}
-use Rattle.decimal_float.specs.declared.Format.{Format}
 use Rattle.decimal_float.specs.Floats.{sign_weight}
 use Rattle.array_columns.specs.declared.Kind.{Kind}
 use Rattle.union_array.specs.Types.{width_of, low_bits}

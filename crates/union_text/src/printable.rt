@@ -4,6 +4,7 @@ ghost use Rattle.decimal.specs.Written.{put_at};
 ghost use Rattle.union_text.specs.Printable.{printed};
 
 // A byte of a name as it is printed.
+#[tactic(auto, unfolding(crate::specs::Printable::printed))]
 pub fn printable(b: u8) -> u8
     ensures { result ≡ printed b }
 {
