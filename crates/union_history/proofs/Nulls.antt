@@ -1,15 +1,14 @@
 -- The null mask marks the slots whose child slot is null, on every route.
-use mathlib.Core.Bool.{Bool, ◌&&◌, cond, false, false≢true, not, true}
+use mathlib.Core.Bool.{Bool, cond, false, false≢true, not, true}
 use mathlib.Core.List.{List, [], ◌∷◌}
-use mathlib.Core.Logic.{◌≢◌}
 use mathlib.Core.Option.{Option, none, some}
 use mathlib.Core.Path.{◌∙◌, ◌≡◌, ap, refl, sym}
-use Prim.Native.Nat.{◌-◌, ◌<◌, ◌≤◌, ℕ}
+use Prim.Native.Nat.{◌<◌, ◌≤◌, ℕ}
 use native.Mathlib.Omega.{arith}
-use lib.Dec.{eqb, leb, ltb}
+use lib.Dec.{eqb, leb}
 use lib.IntN.{nat_abs, negsuc, pos, ℤ}
 use lib.ListN.{length}
-use borrow.Author.Tests.{eqb-true, le-leb, leb-true, ltb-true, not-false, not-true}
+use borrow.Author.Tests.{eqb-true, le-leb, ltb-true, not-false, not-true}
 use Rattle.bitmap.specs.Bits.{bit_at, count, digit, words_for, written}
 use Rattle.bitmap.proofs.Counts.{count_none, count_zero, not_not}
 use Rattle.bitmap.proofs.Setting.{written_bit}

@@ -3,7 +3,7 @@ use mathlib.Core.Bool.{Bool, false, false≢true, not, true}
 use mathlib.Core.List.{List, [], ◌∷◌}
 use mathlib.Core.Logic.{inr}
 use mathlib.Core.Path.{◌≡◌, ap, refl}
-use Prim.Native.Nat.{ℕ, ◌-◌}
+use Prim.Native.Nat.{ℕ}
 use native.Mathlib.Omega.{arith}
 use Rattle.bitmap.proofs.Tables.{both}
 use Rattle.array_columns.specs.Buffers.{Buffers}
