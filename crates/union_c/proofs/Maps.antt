@@ -104,14 +104,14 @@ module _ {A : Type 0} (p : A → Bool) (d : A) where
   tested_turn xs k e t = every_more k (λ j. p (get_or xs j d)) ∙ ap₂ ◌&&◌ e t
 
 -- the elements of zeros
-abbrev pub no_cColumn : CColumn
-no_cColumn = record { values = 0; mask = 0; name = 0; slots = 0; bit = 0; size = 0; id = pos 0; kind = 0; masked = 0 }
+abbrev pub no_c_column : CColumn
+no_c_column = record { values = 0; mask = 0; name = 0; slots = 0; bit = 0; size = 0; id = pos 0; kind = 0; masked = 0 }
 
-abbrev pub no_cBuilder_column : CBuilderColumn
-no_cBuilder_column = record { slots = 0; size = 0; kind = 0; masked = 0 }
+abbrev pub no_c_builder_column : CBuilderColumn
+no_c_builder_column = record { slots = 0; size = 0; kind = 0; masked = 0 }
 
-abbrev pub no_cName_place : CNamePlace
-no_cName_place = record { start = 0; size = 0 }
+abbrev pub no_c_name_place : CNamePlace
+no_c_name_place = record { start = 0; size = 0 }
 
 -- what the conversions make, from what their loops and calls told
 module _ (a : CArray) where

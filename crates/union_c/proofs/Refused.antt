@@ -15,6 +15,13 @@ pub answer_accepted : {A : Type 0} (n : ℕ) (w x y : A) → n ≡ 0 → w ≡ x
 answer_accepted zero w x y h e = e
 answer_accepted (suc n) w x y h e = absurd (omega arith)
 
+-- both, for a search
+pub refused_is : {A : Type 0} (n : ℕ) (x y : A) → (n ≡ 0 → ⊥) → if_yes n x y ≡ y
+refused_is n x y h = sym (answer_refused n x y h)
+
+pub accepted_is : {A : Type 0} (n : ℕ) (x y : A) → n ≡ 0 → if_yes n x y ≡ x
+accepted_is n x y h = sym (answer_accepted n x x y h refl)
+
 module _ (c : CBuilder) (f : Finished) where
   pub finish_refused : (a : CArray) → (f.refusal ≡ 0 → ⊥) → a ≡ array_to f.array → ◌≡◌ {A = CFinished} (record { builder = c; array = a; refusal = f.refusal }) (finished_to c f)
   finish_refused a h e = rw e (ap (λ (b : CBuilder). record { builder = b; array = array_to f.array; refusal = f.refusal }) (answer_refused f.refusal _ c h))

@@ -53,12 +53,12 @@ builder_into c b = record {
   layout = layout_number b.layout;
 }
 
-abbrev pub no_cBuilder : CBuilder
-no_cBuilder = record { columns = replicate 128 (builder_column_to no_builder_column); capacity = 0; limit = 0; len = 0; count = 0; layout = 0 }
+abbrev pub no_c_builder : CBuilder
+no_c_builder = record { columns = replicate 128 (builder_column_to no_builder_column); capacity = 0; limit = 0; len = 0; count = 0; layout = 0 }
 
 -- to a caller who kept none: entries past the columns in use are zeros
 abbrev pub builder_to : UnionBuilder → CBuilder
-builder_to b = builder_into no_cBuilder b
+builder_to b = builder_into no_c_builder b
 
 abbrev pub built : CBuilder → ℕ → CBuilt
 built b n = record { builder = b; refusal = n }

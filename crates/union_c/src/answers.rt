@@ -22,6 +22,7 @@ pub fn made_to(r: Made) -> CBuilt
 }
 
 // What an append answers to a caller who keeps `c`.
+#[tactic(auto, using(crate::proofs::Refused::accepted_is, crate::proofs::Refused::refused_is))]
 pub fn appended_to(c: CBuilder, r: Appended) -> CBuilt
     ensures { result ≡ appended_to c r }
 {
@@ -39,6 +40,7 @@ pub fn appended_to(c: CBuilder, r: Appended) -> CBuilt
 }
 
 // What a finish that empties the builder answers to a caller who keeps `c`.
+#[tactic(auto, using(crate::proofs::Refused::accepted_is, crate::proofs::Refused::refused_is))]
 pub fn finished_to(c: CBuilder, f: Finished) -> CFinished
     ensures { result ≡ finished_to c f }
 {

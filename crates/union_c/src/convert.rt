@@ -57,6 +57,7 @@ pub fn is_strategy(n: u8) -> bool
 }
 
 // Whether a column's numbers name a kind and a flag.
+#[tactic(auto, using(crate::proofs::Numbers::case_flag, crate::proofs::Numbers::case_kind))]
 fn is_case(kind: u8, masked: u8) -> bool
     ensures { result ≡ is_case kind masked }
 {

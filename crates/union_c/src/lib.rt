@@ -1,10 +1,12 @@
 // The C structs, of plain numbers, and their conversion to and from the structs of the crates below.
+#![tactic(auto)]
+
 pub mod answers;
 pub mod convert;
 
 // A column list's entry. `kind` is 0 to 9 in the order of `array_columns::Kind`, `masked` 0 or 1.
 #[repr(C)]
-#[derive(Drop)]
+#[derive(Clone, Copy)]
 pub struct CColumn {
     pub values: usize,
     pub mask: usize,
@@ -19,7 +21,7 @@ pub struct CColumn {
 
 // A union array. `layout` is 0 for sparse and 1 for dense.
 #[repr(C)]
-#[derive(Drop)]
+#[derive(Clone, Copy)]
 pub struct CArray {
     pub columns: [CColumn; 128],
     pub fields: usize,
@@ -32,7 +34,7 @@ pub struct CArray {
 }
 
 #[repr(C)]
-#[derive(Drop)]
+#[derive(Clone, Copy)]
 pub struct CValue {
     pub bits: u64,
     pub name: [u8; 32],
@@ -44,35 +46,35 @@ pub struct CValue {
 }
 
 #[repr(C)]
-#[derive(Drop)]
+#[derive(Clone, Copy)]
 pub struct CTypeId {
     pub refusal: u8,
     pub id: i8,
 }
 
 #[repr(C)]
-#[derive(Drop)]
+#[derive(Clone, Copy)]
 pub struct CValueOffset {
     pub offset: usize,
     pub refusal: u8,
 }
 
 #[repr(C)]
-#[derive(Drop)]
+#[derive(Clone, Copy)]
 pub struct CChild {
     pub column: CColumn,
     pub refusal: u8,
 }
 
 #[repr(C)]
-#[derive(Drop)]
+#[derive(Clone, Copy)]
 pub struct CNamePlace {
     pub start: usize,
     pub size: u8,
 }
 
 #[repr(C)]
-#[derive(Drop)]
+#[derive(Clone, Copy)]
 pub struct CTypeNames {
     pub names: [CNamePlace; 128],
     pub count: usize,
@@ -80,14 +82,14 @@ pub struct CTypeNames {
 }
 
 #[repr(C)]
-#[derive(Drop)]
+#[derive(Clone, Copy)]
 pub struct CFlag {
     pub refusal: u8,
     pub holds: u8,
 }
 
 #[repr(C)]
-#[derive(Drop)]
+#[derive(Clone, Copy)]
 pub struct CSlice {
     pub array: CArray,
     pub refusal: u8,
@@ -95,7 +97,7 @@ pub struct CSlice {
 
 // The part of the lent type ids that is the array's own.
 #[repr(C)]
-#[derive(Drop)]
+#[derive(Clone, Copy)]
 pub struct CPart {
     pub start: usize,
     pub count: usize,
@@ -103,7 +105,7 @@ pub struct CPart {
 }
 
 #[repr(C)]
-#[derive(Drop)]
+#[derive(Clone, Copy)]
 pub struct CNulls {
     pub nulls: usize,
     pub refusal: u8,
@@ -112,7 +114,7 @@ pub struct CNulls {
 }
 
 #[repr(C)]
-#[derive(Drop)]
+#[derive(Clone, Copy)]
 pub struct CBuilderColumn {
     pub slots: u32,
     pub size: u8,
@@ -121,7 +123,7 @@ pub struct CBuilderColumn {
 }
 
 #[repr(C)]
-#[derive(Drop)]
+#[derive(Clone, Copy)]
 pub struct CBuilder {
     pub columns: [CBuilderColumn; 128],
     pub capacity: usize,
@@ -133,21 +135,21 @@ pub struct CBuilder {
 
 // What a making, `append` and `append_null` answer.
 #[repr(C)]
-#[derive(Drop)]
+#[derive(Clone, Copy)]
 pub struct CBuilt {
     pub builder: CBuilder,
     pub refusal: u8,
 }
 
 #[repr(C)]
-#[derive(Drop)]
+#[derive(Clone, Copy)]
 pub struct CLength {
     pub builder: CBuilder,
     pub len: usize,
 }
 
 #[repr(C)]
-#[derive(Drop)]
+#[derive(Clone, Copy)]
 pub struct CFinished {
     pub builder: CBuilder,
     pub array: CArray,
