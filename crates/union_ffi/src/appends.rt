@@ -7,8 +7,7 @@ ghost use Rattle.union_ffi.specs.Appends.{c_appended, c_appends};
 use union_c::{CBuilder, CBuilt, answers, convert};
 
 // Appends the readings in order: names in the text, kinds and presence by their numbers, and the values' bits.
-#[unsafe(no_mangle)]
-pub extern "C" fn union_builder_appends(
+pub fn union_builder_appends(
     builder: CBuilder,
     text: &[u8],
     starts: &[u32],

@@ -10,8 +10,7 @@ use union_c::{
 };
 
 // Whether the description is one of a union array over the memory lent.
-#[unsafe(no_mangle)]
-pub extern "C" fn union_array_try_new(
+pub fn union_array_try_new(
     array: CArray,
     type_ids: &[i8],
     offsets: &[i32],
@@ -29,8 +28,7 @@ pub extern "C" fn union_array_try_new(
 }
 
 // Slot i's id, name, kind and value.
-#[unsafe(no_mangle)]
-pub extern "C" fn union_array_value(
+pub fn union_array_value(
     array: CArray,
     i: usize,
     type_ids: &[i8],
@@ -49,8 +47,7 @@ pub extern "C" fn union_array_value(
 }
 
 // Slot i's type id.
-#[unsafe(no_mangle)]
-pub extern "C" fn union_array_type_id(
+pub fn union_array_type_id(
     array: CArray,
     i: usize,
     type_ids: &[i8],
@@ -76,8 +73,7 @@ pub extern "C" fn union_array_type_id(
 }
 
 // Slot i's slot in its child.
-#[unsafe(no_mangle)]
-pub extern "C" fn union_array_value_offset(
+pub fn union_array_value_offset(
     array: CArray,
     i: usize,
     type_ids: &[i8],
@@ -103,8 +99,7 @@ pub extern "C" fn union_array_value_offset(
 }
 
 // The column with an id.
-#[unsafe(no_mangle)]
-pub extern "C" fn union_array_child(
+pub fn union_array_child(
     array: CArray,
     id: i8,
     type_ids: &[i8],
@@ -131,8 +126,7 @@ pub extern "C" fn union_array_child(
 }
 
 // The places of the names, in list order, and how many.
-#[unsafe(no_mangle)]
-pub extern "C" fn union_array_type_names(
+pub fn union_array_type_names(
     array: CArray,
     type_ids: &[i8],
     offsets: &[i32],
@@ -154,8 +148,7 @@ pub extern "C" fn union_array_type_names(
 }
 
 // Whether the layout is dense.
-#[unsafe(no_mangle)]
-pub extern "C" fn union_array_is_dense(
+pub fn union_array_is_dense(
     array: CArray,
     type_ids: &[i8],
     offsets: &[i32],
@@ -176,8 +169,7 @@ pub extern "C" fn union_array_is_dense(
 }
 
 // Whether some child has a null anywhere in it.
-#[unsafe(no_mangle)]
-pub extern "C" fn union_array_is_nullable(
+pub fn union_array_is_nullable(
     array: CArray,
     type_ids: &[i8],
     offsets: &[i32],
@@ -198,8 +190,7 @@ pub extern "C" fn union_array_is_nullable(
 }
 
 // Where the array's type ids are among those lent: the start and the count of that part.
-#[unsafe(no_mangle)]
-pub extern "C" fn union_array_type_ids(
+pub fn union_array_type_ids(
     array: CArray,
     type_ids: &[i8],
     offsets: &[i32],
@@ -233,8 +224,7 @@ pub extern "C" fn union_array_type_ids(
 }
 
 // Slots o to o + n - 1.
-#[unsafe(no_mangle)]
-pub extern "C" fn union_array_slice(
+pub fn union_array_slice(
     array: CArray,
     o: usize,
     n: usize,

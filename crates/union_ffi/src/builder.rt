@@ -10,8 +10,7 @@ use union_builder::UnionBuilder;
 use union_c::{CBuilder, CBuilt, CFinished, CLength, answers, convert};
 
 // A dense builder of `capacity` slots and at most `limit` columns.
-#[unsafe(no_mangle)]
-pub extern "C" fn union_builder_with_capacity_dense(
+pub fn union_builder_with_capacity_dense(
     capacity: usize,
     limit: usize,
     type_ids: &[i8],
@@ -28,8 +27,7 @@ pub extern "C" fn union_builder_with_capacity_dense(
 }
 
 // A sparse builder of `capacity` slots and at most `limit` columns.
-#[unsafe(no_mangle)]
-pub extern "C" fn union_builder_with_capacity_sparse(
+pub fn union_builder_with_capacity_sparse(
     capacity: usize,
     limit: usize,
     type_ids: &[i8],
@@ -46,8 +44,7 @@ pub extern "C" fn union_builder_with_capacity_sparse(
 }
 
 // A dense builder of 1024 slots.
-#[unsafe(no_mangle)]
-pub extern "C" fn union_builder_new_dense(
+pub fn union_builder_new_dense(
     limit: usize,
     type_ids: &[i8],
     offsets: &[i32],
@@ -61,8 +58,7 @@ pub extern "C" fn union_builder_new_dense(
 }
 
 // A sparse builder of 1024 slots.
-#[unsafe(no_mangle)]
-pub extern "C" fn union_builder_new_sparse(
+pub fn union_builder_new_sparse(
     limit: usize,
     type_ids: &[i8],
     offsets: &[i32],
@@ -76,8 +72,7 @@ pub extern "C" fn union_builder_new_sparse(
 }
 
 // Appends a value to the column with the name.
-#[unsafe(no_mangle)]
-pub extern "C" fn union_builder_append(
+pub fn union_builder_append(
     builder: CBuilder,
     name: &[u8],
     kind: u8,
@@ -110,8 +105,7 @@ pub extern "C" fn union_builder_append(
 }
 
 // Appends a null to the column with the name.
-#[unsafe(no_mangle)]
-pub extern "C" fn union_builder_append_null(
+pub fn union_builder_append_null(
     builder: CBuilder,
     name: &[u8],
     kind: u8,
@@ -143,8 +137,7 @@ pub extern "C" fn union_builder_append_null(
 }
 
 // How many slots there are. Nothing is asked.
-#[unsafe(no_mangle)]
-pub extern "C" fn union_builder_len(builder: CBuilder) -> CLength
+pub fn union_builder_len(builder: CBuilder) -> CLength
     ensures { result ≡ c_len builder }
 {
     CLength {
@@ -154,8 +147,7 @@ pub extern "C" fn union_builder_len(builder: CBuilder) -> CLength
 }
 
 // Describes the array so far, and keeps the builder.
-#[unsafe(no_mangle)]
-pub extern "C" fn union_builder_finish_cloned(
+pub fn union_builder_finish_cloned(
     builder: CBuilder,
     type_ids: &[i8],
     offsets: &[i32],
@@ -179,8 +171,7 @@ pub extern "C" fn union_builder_finish_cloned(
 }
 
 // Describes the array so far, and hands back an empty builder.
-#[unsafe(no_mangle)]
-pub extern "C" fn union_builder_finish(
+pub fn union_builder_finish(
     builder: CBuilder,
     type_ids: &[i8],
     offsets: &[i32],

@@ -1,6 +1,8 @@
-// The calls for C and Rust: plain numbers, C structs of numbers, and slices.
-mod appends;
-mod array;
-mod builder;
-mod nulls;
-mod values;
+// The calls for C and Rust: plain numbers, C structs of numbers, and slices. union_ffi_c exports each to C under its name.
+#![tactic(auto)]
+
+pub mod appends;
+pub mod array;
+pub mod builder;
+pub mod nulls;
+pub mod values;

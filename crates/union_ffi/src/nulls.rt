@@ -7,8 +7,7 @@ use logical_nulls::{mask, named};
 use union_c::{CArray, CNulls, answers, convert};
 
 // The null mask at a gather cost: its answer, and its words in `out`.
-#[unsafe(no_mangle)]
-pub extern "C" fn union_logical_nulls(
+pub fn union_logical_nulls(
     array: CArray,
     cost: usize,
     type_ids: &[i8],
@@ -33,8 +32,7 @@ pub extern "C" fn union_logical_nulls(
 }
 
 // The null mask by one named strategy, given by its route's number: its answer, and its words in `out`.
-#[unsafe(no_mangle)]
-pub extern "C" fn union_strategy(
+pub fn union_strategy(
     array: CArray,
     strategy: u8,
     type_ids: &[i8],

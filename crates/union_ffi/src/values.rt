@@ -7,8 +7,7 @@ ghost use Rattle.union_ffi.specs.Values.{c_values};
 use union_c::{CArray, convert};
 
 // The ids, the presence (1 where missing) and the values of n slots from `first` on, as `union_array_value` tells them one by one.
-#[unsafe(no_mangle)]
-pub extern "C" fn union_array_values(
+pub fn union_array_values(
     array: CArray,
     first: usize,
     n: usize,

@@ -1,9 +1,0 @@
-use borrow.Author.Rules.{rules}
-use Rattle.union_ffi.proofs.builder.union_builder_new_sparse.Statement.{statement}
-use Rattle.union_ffi.proofs.builder.union_builder_new_sparse.Tie as tie
-
-returns : tie.Need-returns
-returns c = rw (c.made-to.ensures, c.before.new-sparse.ensures)
-
-pub union-builder-new-sparse-spec : {M : Type 1} → statement M
-union-builder-new-sparse-spec = tie.close (tie.spec (λ c κs. search rules) (λ c κs. search rules) returns)
