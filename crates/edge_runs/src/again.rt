@@ -1,10 +1,13 @@
 // A list played again, with the builder lent to each append of a value.
 use crate::{play, print, same};
 use program_kit::output;
+use program_kit::output::Writer;
+use std::io;
 use union_builder::UnionBuilder;
 
 // Whether the builder, the numbers and the memory by `append_mut` are the same as by `append`: type ids, offsets, values, masks, names.
 pub fn compare(
+    to: &mut Writer,
     list: usize,
     dense: bool,
     b: UnionBuilder,
@@ -14,7 +17,7 @@ pub fn compare(
     values: &[u64],
     masks: &[u64],
     names: &[u8],
-) {
+) -> io::Result<()> {
     let mut told2 = [0u64; 66];
     let mut ids2 = [-1i8; 66];
     let mut offsets2 = [-1i32; 66];
@@ -32,12 +35,12 @@ pub fn compare(
         &mut masks2,
         &mut names2,
     );
-    print::holds(b" by append_mut: builder", same::builders(b, p.builder));
-    print::holds(b", numbers", same::words(told, &told2));
-    print::holds(b", memory", same::ids(ids, &ids2));
-    print::flag(same::offsets(offsets, &offsets2));
-    print::flag(same::words(values, &values2));
-    print::flag(same::words(masks, &masks2));
-    print::flag(same::bytes(names, &names2));
-    output::end();
+    print::holds(to, b" by append_mut: builder", same::builders(b, p.builder))?;
+    print::holds(to, b", numbers", same::words(told, &told2))?;
+    print::holds(to, b", memory", same::ids(ids, &ids2))?;
+    print::flag(to, same::offsets(offsets, &offsets2))?;
+    print::flag(to, same::words(values, &values2))?;
+    print::flag(to, same::words(masks, &masks2))?;
+    print::flag(to, same::bytes(names, &names2))?;
+    output::end(to)
 }

@@ -8,7 +8,7 @@ use crate::names::Name;
 use array_columns::{Kind, kinds};
 
 // What an append is given: the name, and a value of a kind, or a null.
-#[derive(Drop)]
+#[derive(Clone, Copy)]
 pub struct Entry {
     pub name: Name,
     pub bits: u64,
@@ -17,7 +17,7 @@ pub struct Entry {
 }
 
 // The slots and columns of a list's builder.
-#[derive(Drop)]
+#[derive(Clone, Copy)]
 pub struct Sizes {
     pub slots: usize,
     pub columns: usize,

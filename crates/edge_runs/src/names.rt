@@ -1,7 +1,7 @@
 // Names at the edges of RFC 3629.
 
 // The first `size` bytes are the name.
-#[derive(Drop)]
+#[derive(Clone, Copy)]
 pub struct Name {
     pub bytes: [u8; 33],
     pub size: usize,

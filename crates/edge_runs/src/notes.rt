@@ -2,7 +2,9 @@
 use crate::lists::Entry;
 use crate::{lists, print};
 use array_columns::kinds::kind_number;
+use program_kit::output::Writer;
 use program_kit::{output, parts};
+use std::io;
 use union_builder::Appended;
 
 // Notes an append, if there is room.
@@ -15,57 +17,58 @@ pub fn note(told: &mut [u64], i: usize, r: Appended) {
 }
 
 // The number and the length that a note tells.
-fn told(note: u64) {
-    output::number(note / 65536);
-    output::text(b", length");
-    output::number(note % 65536);
+fn told(to: &mut Writer, note: u64) -> io::Result<()> {
+    output::number(to, note / 65536)?;
+    output::text(to, b", length")?;
+    output::number(to, note % 65536)
 }
 
 // The value that an append is given, or that it is missing.
-fn value(e: Entry) {
+fn value(to: &mut Writer, e: Entry) -> io::Result<()> {
     if e.missing {
-        output::text(b", missing:");
+        output::text(to, b", missing:")?;
     } else {
-        output::text(b", bits");
-        output::word(e.bits);
-        output::text(b":");
+        output::text(to, b", bits")?;
+        output::word(to, e.bits)?;
+        output::text(to, b":")?;
     }
+    Ok(())
 }
 
 // What an append is given, its number and the length after it.
-fn line(e: Entry, note: u64) {
+fn line(to: &mut Writer, e: Entry, note: u64) -> io::Result<()> {
     let n = e.name;
     let bytes = n.bytes;
     let kind = e.kind;
-    output::text(b" append");
-    print::bytes(parts::first_bytes(&bytes, n.size));
-    print::small(b", kind", kind_number(kind));
-    value(e);
-    told(note);
-    output::end();
+    output::text(to, b" append")?;
+    print::bytes(to, parts::first_bytes(&bytes, n.size))?;
+    print::small(to, b", kind", kind_number(kind))?;
+    value(to, e)?;
+    told(to, note)?;
+    output::end(to)
 }
 
 // A line for an append; of a round, for the refused ones only.
-fn appended(list: usize, i: usize, note: u64) {
+fn appended(to: &mut Writer, list: usize, i: usize, note: u64) -> io::Result<()> {
     if !lists::is_round(list) {
-        line(lists::entry_at(list, i), note);
-        return;
+        return line(to, lists::entry_at(list, i), note);
     }
     if note < 65536 {
-        return;
+        return Ok(());
     }
-    print::count(b" append", i);
-    output::text(b":");
-    told(note);
-    output::end();
+    print::count(to, b" append", i)?;
+    output::text(to, b":")?;
+    told(to, note)?;
+    output::end(to)
 }
 
 // Lines for the appends of a list.
-pub fn lines(list: usize, told: &[u64]) {
+pub fn lines(to: &mut Writer, list: usize, told: &[u64]) -> io::Result<()> {
     let n = lists::entries_of(list);
     for i in 0..told.len() {
         if i < n {
-            appended(list, i, told[i]);
+            appended(to, list, i, told[i])?;
         }
     }
+    Ok(())
 }

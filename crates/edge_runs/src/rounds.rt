@@ -1,11 +1,14 @@
 // What a round leaves, read back: every slot, every null mask, a slice, and a snapshot that was taken half way.
 use crate::{fields, masks as null_masks, print, tell};
 use program_kit::output;
+use program_kit::output::Writer;
+use std::io;
 use union_array::UnionArray;
 use union_builder::Finished;
 
 // The fields, how many slots tell entries `first` to `end` - 1, and every null mask.
 fn read_back(
+    to: &mut Writer,
     a: UnionArray,
     first: usize,
     end: usize,
@@ -14,17 +17,22 @@ fn read_back(
     values: &[u64],
     masks: &[u64],
     names: &[u8],
-) {
-    fields::lines(a, ids, offsets, values, masks, names);
-    print::small(b"  try_new", a.try_new(ids, offsets, values, masks, names));
+) -> io::Result<()> {
+    fields::lines(to, a, ids, offsets, values, masks, names)?;
+    print::small(
+        to,
+        b"  try_new",
+        a.try_new(ids, offsets, values, masks, names),
+    )?;
     let count = tell::count(a, first, end, ids, offsets, values, masks, names);
-    print::count(b", slots that tell their entry", count);
-    output::end();
-    null_masks::lines(a, ids, offsets, values, masks, names);
+    print::count(to, b", slots that tell their entry", count)?;
+    output::end(to)?;
+    null_masks::lines(to, a, ids, offsets, values, masks, names)
 }
 
 // What a builder of n slots describes, its slice from slot 1 on, and what it described half way.
 pub fn lines(
+    to: &mut Writer,
     p: Finished,
     n: usize,
     ids: &[i8],
@@ -32,21 +40,21 @@ pub fn lines(
     values: &[u64],
     masks: &[u64],
     names: &[u8],
-) {
+) -> io::Result<()> {
     if n < 1 {
-        return;
+        return Ok(());
     }
     let b = p.builder;
     let f = b.finish_cloned(ids, offsets, values, masks, names);
     let a = f.array;
-    print::answer(b" finish_cloned:", f.refusal);
-    read_back(a, 0, n, ids, offsets, values, masks, names);
+    print::answer(to, b" finish_cloned:", f.refusal)?;
+    read_back(to, a, 0, n, ids, offsets, values, masks, names)?;
     let s = a.slice(1, n - 1, ids, offsets, values, masks, names);
     let part = s.array;
-    print::answer(b" slice from slot 1:", s.refusal);
-    read_back(part, 1, n, ids, offsets, values, masks, names);
+    print::answer(to, b" slice from slot 1:", s.refusal)?;
+    read_back(to, part, 1, n, ids, offsets, values, masks, names)?;
     let half = p.array;
-    print::count(b" snapshot at slot", half.count);
-    output::end();
-    read_back(half, 0, half.count, ids, offsets, values, masks, names);
+    print::count(to, b" snapshot at slot", half.count)?;
+    output::end(to)?;
+    read_back(to, half, 0, half.count, ids, offsets, values, masks, names)
 }

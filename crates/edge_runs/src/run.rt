@@ -1,9 +1,12 @@
 // A list played by `append` and by `append_mut`, and what it leaves, read back.
 use crate::{again, lists, notes, play, read, refusals, rounds};
+use program_kit::output::Writer;
+use std::io;
 use union_builder::Finished;
 
 // What a list notes and leaves. Of a list of a few slots and columns, the memory too.
 fn lines(
+    to: &mut Writer,
     list: usize,
     dense: bool,
     p: Finished,
@@ -13,25 +16,25 @@ fn lines(
     values: &[u64],
     masks: &[u64],
     names: &[u8],
-) {
+) -> io::Result<()> {
     let b = p.builder;
-    notes::lines(list, told);
-    again::compare(list, dense, b, told, ids, offsets, values, masks, names);
+    notes::lines(to, list, told)?;
+    again::compare(to, list, dense, b, told, ids, offsets, values, masks, names)?;
     if lists::is_round(list) {
-        rounds::lines(p, list, ids, offsets, values, masks, names);
-        return;
+        return rounds::lines(to, p, list, ids, offsets, values, masks, names);
     }
     if list < 5 {
-        read::memory(ids, offsets, values, masks, names);
+        read::memory(to, ids, offsets, values, masks, names)?;
     }
-    read::finished(b, ids, offsets, values, masks, names);
+    read::finished(to, b, ids, offsets, values, masks, names)?;
     if list == 1 || list == 3 {
-        refusals::lines(b, ids, offsets, values, masks, names);
+        refusals::lines(to, b, ids, offsets, values, masks, names)?;
     }
+    Ok(())
 }
 
 // Plays a list over memory that holds ones at first.
-pub fn run(list: usize, dense: bool) {
+pub fn run(to: &mut Writer, list: usize, dense: bool) -> io::Result<()> {
     let mut told = [0u64; 66];
     let mut ids = [-1i8; 66];
     let mut offsets = [-1i32; 66];
@@ -50,6 +53,6 @@ pub fn run(list: usize, dense: bool) {
         &mut names,
     );
     lines(
-        list, dense, p, &told, &ids, &offsets, &values, &masks, &names,
-    );
+        to, list, dense, p, &told, &ids, &offsets, &values, &masks, &names,
+    )
 }

@@ -1,4 +1,6 @@
 // What the programs share: lists and numbers on standard output, parts of lists, and calls of a builder and an array by flags.
+#![tactic(auto)]
+
 pub mod builders;
 pub mod masks;
 pub mod output;

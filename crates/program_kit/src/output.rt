@@ -1,108 +1,107 @@
 // Words, numbers and lists on standard output.
 use array_columns::questions::entry_of;
-use libc::STDOUT_FILENO;
+use std::io;
+use std::io::{BufWriter, Stdout, Write};
 
-pub fn text(s: &[u8]) {
-    io::write_all(STDOUT_FILENO, s);
+// Standard output, behind a buffer.
+pub type Writer = BufWriter<Stdout>;
+
+pub fn text(to: &mut Writer, s: &[u8]) -> io::Result<()> {
+    to.write_all(s)
 }
 
-pub fn end() {
-    text(b"\n");
+pub fn end(to: &mut Writer) -> io::Result<()> {
+    text(to, b"\n")
 }
 
 // One of two texts.
-pub fn either(first: bool, a: &[u8], b: &[u8]) {
-    if first {
-        text(a);
-    } else {
-        text(b);
-    }
+pub fn either(to: &mut Writer, first: bool, a: &[u8], b: &[u8]) -> io::Result<()> {
+    if first { text(to, a) } else { text(to, b) }
 }
 
 // The layout's name.
-pub fn layout(dense: bool) {
-    either(dense, b"dense", b"sparse");
+pub fn layout(to: &mut Writer, dense: bool) -> io::Result<()> {
+    either(to, dense, b"dense", b"sparse")
 }
 
 // A number in decimal.
-pub fn decimal(n: u64) {
-    io::print_decimal(STDOUT_FILENO, n);
+pub fn decimal(to: &mut Writer, n: u64) -> io::Result<()> {
+    write!(to, "{n}")
 }
 
 // A number after a space.
-pub fn number(n: u64) {
-    text(b" ");
-    decimal(n);
+pub fn number(to: &mut Writer, n: u64) -> io::Result<()> {
+    text(to, b" ")?;
+    decimal(to, n)
 }
 
-pub fn size(n: usize) {
-    number(n as u64);
+pub fn size(to: &mut Writer, n: usize) -> io::Result<()> {
+    number(to, n as u64)
 }
 
-pub fn small(n: u8) {
-    number(n as u64);
+pub fn small(to: &mut Writer, n: u8) -> io::Result<()> {
+    number(to, n as u64)
 }
 
 // An id after a space, 255 for one below 0.
-pub fn id(n: i8) {
-    size(entry_of(n));
+pub fn id(to: &mut Writer, n: i8) -> io::Result<()> {
+    size(to, entry_of(n))
 }
 
 // A word after a space, as 16 hexadecimal digits.
-pub fn word(n: u64) {
-    text(b" ");
-    io::print_hex(STDOUT_FILENO, n, 16);
+pub fn word(to: &mut Writer, n: u64) -> io::Result<()> {
+    text(to, b" ")?;
+    write!(to, "{n:016x}")
 }
 
-fn word_as(n: u64, hex: bool) {
-    if hex {
-        word(n);
-    } else {
-        number(n);
-    }
+fn word_as(to: &mut Writer, n: u64, hex: bool) -> io::Result<()> {
+    if hex { word(to, n) } else { number(to, n) }
 }
 
 // Words, each after a space, in hexadecimal or in decimal.
-pub fn words(list: &[u64], hex: bool) {
+pub fn words(to: &mut Writer, list: &[u64], hex: bool) -> io::Result<()> {
     for i in 0..list.len() {
-        word_as(list[i], hex);
+        word_as(to, list[i], hex)?;
     }
+    Ok(())
 }
 
-fn byte_as(n: u8, hex: bool) {
+fn byte_as(to: &mut Writer, n: u8, hex: bool) -> io::Result<()> {
     if hex {
-        io::print_hex(STDOUT_FILENO, n as u64, 2);
+        write!(to, "{n:02x}")
     } else {
-        small(n);
+        small(to, n)
     }
 }
 
 // Bytes: two hexadecimal digits each, or in decimal after a space.
-pub fn bytes(list: &[u8], hex: bool) {
+pub fn bytes(to: &mut Writer, list: &[u8], hex: bool) -> io::Result<()> {
     for i in 0..list.len() {
-        byte_as(list[i], hex);
+        byte_as(to, list[i], hex)?;
     }
+    Ok(())
 }
 
 // Ids, each after a space.
-pub fn ids(list: &[i8]) {
+pub fn ids(to: &mut Writer, list: &[i8]) -> io::Result<()> {
     for i in 0..list.len() {
-        id(list[i]);
+        id(to, list[i])?;
     }
+    Ok(())
 }
 
 // An offset after a space, or for one below 0 a text.
-fn offset(n: i32, below: &[u8]) {
+fn offset(to: &mut Writer, n: i32, below: &[u8]) -> io::Result<()> {
     if n < 0 {
-        text(below);
-        return;
+        return text(to, below);
     }
-    number(n as u64);
+    number(to, n as u64)
 }
 
 // Offsets, each after a space, or for those below 0 a text.
-pub fn offsets(list: &[i32], below: &[u8]) {
+pub fn offsets(to: &mut Writer, list: &[i32], below: &[u8]) -> io::Result<()> {
     for i in 0..list.len() {
-        offset(list[i], below);
+        offset(to, list[i], below)?;
     }
+    Ok(())
 }

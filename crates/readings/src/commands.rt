@@ -2,7 +2,7 @@
 use array_columns::Kind;
 
 // Why a line is bad.
-#[derive(Drop)]
+#[derive(Clone, Copy)]
 pub enum Fault {
     Unknown,
     Missing,
@@ -14,7 +14,7 @@ pub enum Fault {
 }
 
 // A new builder.
-#[derive(Drop)]
+#[derive(Clone, Copy)]
 pub struct Making {
     pub capacity: usize,
     pub limit: usize,
@@ -22,7 +22,7 @@ pub struct Making {
 }
 
 // A reading: its name is at `start` to `end` - 1 of the line.
-#[derive(Drop)]
+#[derive(Clone, Copy)]
 pub struct Reading {
     pub start: usize,
     pub end: usize,
@@ -32,13 +32,13 @@ pub struct Reading {
 }
 
 // A part of a batch.
-#[derive(Drop)]
+#[derive(Clone, Copy)]
 pub struct Part {
     pub start: usize,
     pub count: usize,
 }
 
-#[derive(Drop)]
+#[derive(Clone, Copy)]
 pub enum Command {
     Nothing,
     Bad(Fault),

@@ -1,8 +1,10 @@
 // Lines of an input, a byte at a time.
+use std::io;
+use std::io::Read;
 
 // Where reading stands: the bytes left are `at` to `end` - 1 of the input buffer; the line so far has `len` bytes, and `long` says that
 // it had more than fit. `whole` says that the line has ended, `ended` that the input has.
-#[derive(Drop)]
+#[derive(Clone, Copy)]
 pub struct Cursor {
     pub number: u64,
     pub at: usize,
@@ -26,12 +28,8 @@ pub fn start() -> Cursor {
 }
 
 // The next bytes of the input, none at its end.
-fn fill(fd: i32, input: &mut [u8]) -> usize {
-    let got = libc::read(fd, input);
-    if got < 0 {
-        os::fail(b"reading");
-    }
-    io::count(got, input)
+fn fill<R: Read>(from: &mut R, input: &mut [u8]) -> io::Result<usize> {
+    from.read(input)
 }
 
 // The line with one byte more.
@@ -64,23 +62,28 @@ fn take(c: Cursor, input: &[u8], line: &mut [u8]) -> Cursor {
 }
 
 // One byte of the input, or its end.
-fn step(fd: i32, c: Cursor, input: &mut [u8], line: &mut [u8]) -> Cursor {
+fn step<R: Read>(from: &mut R, c: Cursor, input: &mut [u8], line: &mut [u8]) -> io::Result<Cursor> {
     if c.at < c.end {
-        return take(c, input, line);
+        return Ok(take(c, input, line));
     }
     let mut d = c;
     d.at = 0;
-    d.end = fill(fd, input);
+    d.end = fill(from, input)?;
     if d.end == 0 {
         d.whole = true;
         d.ended = true;
-        return d;
+        return Ok(d);
     }
-    take(d, input, line)
+    Ok(take(d, input, line))
 }
 
 // The next line; an input that has ended gives an empty one.
-pub fn next(fd: i32, c: Cursor, input: &mut [u8], line: &mut [u8]) -> Cursor {
+pub fn next<R: Read>(
+    from: &mut R,
+    c: Cursor,
+    input: &mut [u8],
+    line: &mut [u8],
+) -> io::Result<Cursor> {
     let mut d = c;
     d.len = 0;
     d.long = false;
@@ -88,12 +91,13 @@ pub fn next(fd: i32, c: Cursor, input: &mut [u8], line: &mut [u8]) -> Cursor {
     if d.number < u64::MAX {
         d.number = d.number + 1;
     }
-    let mut turns = u64::MAX;
-    while turns > 0 && !d.whole {
-        turns -= 1;
-        d = step(fd, d, input, line);
+    for _ in 0..u64::MAX {
+        if d.whole {
+            break;
+        }
+        d = step(from, d, input, line)?;
     }
-    d
+    Ok(d)
 }
 
 // The line without a carriage return at its end.

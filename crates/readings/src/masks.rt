@@ -2,6 +2,8 @@
 use crate::{print, say};
 use logical_nulls::{LogicalNulls, Route, mask};
 use program_kit::output;
+use program_kit::output::Writer;
+use std::io;
 use union_array::UnionArray;
 
 // Whether a slot is marked null: the mask is present, and its bit is clear.
@@ -16,33 +18,33 @@ pub fn is_null(r: LogicalNulls, words: &[u64], i: usize) -> bool {
     (words[w] >> (i % 64)) & 1 == 0
 }
 
-fn route_name(route: Route) {
+fn route_name(to: &mut Writer, route: Route) -> io::Result<()> {
     match route {
-        Route::Absent => output::text(b"no column has a null"),
-        Route::OneField => output::text(b"one column"),
-        Route::AllNull => output::text(b"only nulls"),
-        Route::Gather => output::text(b"gather"),
-        Route::SkipOne => output::text(b"skip one"),
-        Route::SkipWithoutNulls => output::text(b"skip without nulls"),
-        Route::SkipFullyNull => output::text(b"skip fully null"),
+        Route::Absent => output::text(to, b"no column has a null"),
+        Route::OneField => output::text(to, b"one column"),
+        Route::AllNull => output::text(to, b"only nulls"),
+        Route::Gather => output::text(to, b"gather"),
+        Route::SkipOne => output::text(to, b"skip one"),
+        Route::SkipWithoutNulls => output::text(to, b"skip without nulls"),
+        Route::SkipFullyNull => output::text(to, b"skip fully null"),
     }
 }
 
 // What the null mask of n slots answers, but for its words.
-pub fn summary(r: LogicalNulls, n: usize, setting: usize) {
-    output::text(b"nulls ");
-    output::decimal(r.nulls as u64);
-    output::text(b" of ");
-    output::decimal(n as u64);
-    output::either(r.present, b", mask present", b", mask absent");
-    output::text(b", route ");
+pub fn summary(to: &mut Writer, r: LogicalNulls, n: usize, setting: usize) -> io::Result<()> {
+    output::text(to, b"nulls ")?;
+    output::decimal(to, r.nulls as u64)?;
+    output::text(to, b" of ")?;
+    output::decimal(to, n as u64)?;
+    output::either(to, r.present, b", mask present", b", mask absent")?;
+    output::text(to, b", route ")?;
     let route = r.route;
-    output::decimal(route.number() as u64);
-    output::text(b" (");
-    route_name(route);
-    output::text(b") at setting ");
-    output::decimal(setting as u64);
-    output::text(b"\n");
+    output::decimal(to, route.number() as u64)?;
+    output::text(to, b" (")?;
+    route_name(to, route)?;
+    output::text(to, b") at setting ")?;
+    output::decimal(to, setting as u64)?;
+    output::text(to, b"\n")
 }
 
 fn mark(null: bool) -> u8 {
@@ -50,7 +52,13 @@ fn mark(null: bool) -> u8 {
 }
 
 // The marks of the slots from `first` to `end` - 1, at most 64 of them.
-fn marks(r: LogicalNulls, words: &[u64], first: usize, end: usize) {
+fn marks(
+    to: &mut Writer,
+    r: LogicalNulls,
+    words: &[u64],
+    first: usize,
+    end: usize,
+) -> io::Result<()> {
     let mut out = [0u8; 64];
     let mut n: usize = 0;
     for i in first..end {
@@ -59,27 +67,28 @@ fn marks(r: LogicalNulls, words: &[u64], first: usize, end: usize) {
             n += 1;
         }
     }
-    print::right_size(first, 10);
-    output::text(b"  ");
-    output::text(&out[..n]);
-    output::text(b"\n");
+    print::right_size(to, first, 10)?;
+    output::text(to, b"  ")?;
+    output::text(to, &out[..n])?;
+    output::text(to, b"\n")
 }
 
 // The marks of n slots, 64 to a line.
-fn all_marks(r: LogicalNulls, words: &[u64], n: usize) {
+fn all_marks(to: &mut Writer, r: LogicalNulls, words: &[u64], n: usize) -> io::Result<()> {
     let mut first: usize = 0;
     while first < n {
         if n - first < 64 {
-            marks(r, words, first, n);
-            return;
+            return marks(to, r, words, first, n);
         }
-        marks(r, words, first, first + 64);
+        marks(to, r, words, first, first + 64)?;
         first += 64;
     }
+    Ok(())
 }
 
 // The null mask of a batch at a setting.
 pub fn show(
+    to: &mut Writer,
     number: u64,
     a: UnionArray,
     setting: usize,
@@ -88,16 +97,16 @@ pub fn show(
     values: &[u64],
     masks: &[u64],
     names: &[u8],
-) {
+) -> io::Result<()> {
     let mut words = [0u64; 64];
     let r = mask::logical_nulls(a, setting, ids, offsets, values, masks, names, &mut words);
     if r.refusal != 0 {
-        say::refused(number, r.refusal);
-        return;
+        return say::refused(to, number, r.refusal);
     }
-    say::line(number);
-    summary(r, a.count, setting);
+    say::line(to, number)?;
+    summary(to, r, a.count, setting)?;
     if r.present {
-        all_marks(r, &words, a.count);
+        all_marks(to, r, &words, a.count)?;
     }
+    Ok(())
 }

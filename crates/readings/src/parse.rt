@@ -6,7 +6,7 @@ use decimal::{Bits, integer};
 use union_text::{KindNamed, kind_names, value_text};
 
 // The number that a word tells, if it is there.
-#[derive(Drop)]
+#[derive(Clone, Copy)]
 pub enum Count {
     Of(usize),
     Missing,
@@ -26,7 +26,7 @@ fn count_of(text: &[u8], w: Word) -> Count {
 }
 
 // The numbers after a command, two at most: `bad` says that a word is none, `extra` that words follow.
-#[derive(Drop)]
+#[derive(Clone, Copy)]
 pub struct Counts {
     pub first: usize,
     pub second: usize,
@@ -142,7 +142,7 @@ fn masking(text: &[u8], from: usize) -> Command {
 }
 
 // A reading, or why a line has none.
-#[derive(Drop)]
+#[derive(Clone, Copy)]
 pub enum Told {
     Of(Reading),
     Bad(Fault),

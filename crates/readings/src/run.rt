@@ -2,9 +2,13 @@
 use crate::lines::Cursor;
 use crate::state::State;
 use crate::{execute, lines, parse, say, state};
+use program_kit::output::Writer;
+use std::io;
+use std::io::{Read, Write};
 
 // Answers one line.
 fn answer(
+    to: &mut Writer,
     s: State,
     c: Cursor,
     line: &[u8],
@@ -13,21 +17,22 @@ fn answer(
     values: &mut [u64],
     masks: &mut [u64],
     names: &mut [u8],
-) -> State {
+) -> io::Result<State> {
     if c.long {
-        say::bad(c.number, b"the line is longer than 1024 bytes");
-        return s;
+        say::bad(to, c.number, b"the line is longer than 1024 bytes")?;
+        return Ok(s);
     }
     let text = lines::trimmed(line, c.len);
     let command = parse::parse(text);
     execute::execute(
-        s, command, text, c.number, ids, offsets, values, masks, names,
+        to, s, command, text, c.number, ids, offsets, values, masks, names,
     )
 }
 
 // Answers every line.
-fn answers(
-    fd: i32,
+fn answers<R: Read>(
+    to: &mut Writer,
+    from: &mut R,
     input: &mut [u8],
     line: &mut [u8],
     ids: &mut [i8],
@@ -35,19 +40,22 @@ fn answers(
     values: &mut [u64],
     masks: &mut [u64],
     names: &mut [u8],
-) {
+) -> io::Result<()> {
     let mut s = state::start();
     let mut c = lines::start();
-    let mut turns = u64::MAX;
-    while turns > 0 && !c.ended {
-        turns -= 1;
-        c = lines::next(fd, c, input, line);
-        s = answer(s, c, line, ids, offsets, values, masks, names);
+    for _ in 0..u64::MAX {
+        if c.ended {
+            break;
+        }
+        c = lines::next(from, c, input, line)?;
+        s = answer(to, s, c, line, ids, offsets, values, masks, names)?;
+        to.flush()?;
     }
+    Ok(())
 }
 
 // The answers to an input: at most 4096 slots, 128 columns, and 131072 values in all.
-pub fn run(fd: i32) {
+pub fn run<R: Read>(to: &mut Writer, from: &mut R) -> io::Result<()> {
     let mut input = [0u8; 65536];
     let mut line = [0u8; 1024];
     let mut ids = [0i8; 4096];
@@ -56,7 +64,8 @@ pub fn run(fd: i32) {
     let mut masks = [0u64; 2176];
     let mut names = [0u8; 4096];
     answers(
-        fd,
+        to,
+        from,
         &mut input,
         &mut line,
         &mut ids,
@@ -64,5 +73,5 @@ pub fn run(fd: i32) {
         &mut values,
         &mut masks,
         &mut names,
-    );
+    )
 }

@@ -5,7 +5,7 @@ use union_builder::UnionBuilder;
 
 // `made` says that there is a builder, `shown` that there is a batch; `past` says that the batch is of a builder that was finished,
 // so that the next append overwrites it.
-#[derive(Drop)]
+#[derive(Clone, Copy)]
 pub struct State {
     pub array: UnionArray,
     pub builder: UnionBuilder,

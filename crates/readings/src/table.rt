@@ -3,12 +3,14 @@ use crate::{masks as null_masks, print};
 use array_columns::questions::entry_of;
 use array_columns::{Column, Value};
 use logical_nulls::{LogicalNulls, mask};
+use program_kit::output::Writer;
 use program_kit::{output, parts};
+use std::io;
 use union_array::UnionArray;
 use union_text::value_text;
 
 // The widths of the names and of the values.
-#[derive(Drop)]
+#[derive(Clone, Copy)]
 pub struct Widths {
     pub names: usize,
     pub values: usize,
@@ -58,53 +60,54 @@ fn value_width(
     width
 }
 
-fn heading(w: Widths) {
-    output::text(b"      slot   id  name");
-    print::fill(4, w.names);
-    output::text(b"  kind     ");
-    print::right(b"value", w.values);
-    output::text(b"  mark\n");
+fn heading(to: &mut Writer, w: Widths) -> io::Result<()> {
+    output::text(to, b"      slot   id  name")?;
+    print::fill(to, 4, w.names)?;
+    output::text(to, b"  kind     ")?;
+    print::right(to, b"value", w.values)?;
+    output::text(to, b"  mark\n")
 }
 
 // A name, and spaces up to the width.
-fn name_field(v: Value, width: usize) {
+fn name_field(to: &mut Writer, v: Value, width: usize) -> io::Result<()> {
     let name = v.name;
     let n = v.size as usize;
     if 32 < n {
-        return;
+        return Ok(());
     }
-    print::name(&name[..n]);
-    print::fill(print::characters(&name[..n]), width);
+    print::name(to, &name[..n])?;
+    print::fill(to, print::characters(&name[..n]), width)
 }
 
 // A value's text, or null, at the right of a field.
-fn value_field(v: Value, width: usize) {
+fn value_field(to: &mut Writer, v: Value, width: usize) -> io::Result<()> {
     if v.missing {
-        print::right(b"null", width);
-        return;
+        return print::right(to, b"null", width);
     }
     let kind = v.kind;
     let mut out = [0u8; 40];
     let n = value_text::value_text(v.bits, kind, &mut out);
-    print::right(&out[..n], width);
+    print::right(to, &out[..n], width)
 }
 
 // A slot's row.
-fn row(v: Value, i: usize, w: Widths, null: bool) {
+fn row(to: &mut Writer, v: Value, i: usize, w: Widths, null: bool) -> io::Result<()> {
     let id = v.id;
     let kind = v.kind;
-    print::right_size(i, 10);
-    print::right_size(entry_of(id), 5);
-    output::text(b"  ");
-    name_field(v, w.names);
-    output::text(b"  ");
-    print::fill(print::kind(kind), 9);
-    value_field(v, w.values);
-    output::either(null, b"  null\n", b"  -\n");
+    print::right_size(to, i, 10)?;
+    print::right_size(to, entry_of(id), 5)?;
+    output::text(to, b"  ")?;
+    name_field(to, v, w.names)?;
+    output::text(to, b"  ")?;
+    let k = print::kind(to, kind)?;
+    print::fill(to, k, 9)?;
+    value_field(to, v, w.values)?;
+    output::either(to, null, b"  null\n", b"  -\n")
 }
 
 // The rows of the first n slots.
 fn rows(
+    to: &mut Writer,
     a: UnionArray,
     n: usize,
     w: Widths,
@@ -115,22 +118,24 @@ fn rows(
     values: &[u64],
     masks: &[u64],
     names: &[u8],
-) {
+) -> io::Result<()> {
     for i in 0..n {
         let v = a.value(i, ids, offsets, values, masks, names);
-        row(v, i, w, null_masks::is_null(r, words, i));
+        row(to, v, i, w, null_masks::is_null(r, words, i))?;
     }
+    Ok(())
 }
 
 // The table of a batch.
 pub fn show(
+    to: &mut Writer,
     a: UnionArray,
     ids: &[i8],
     offsets: &[i32],
     values: &[u64],
     masks: &[u64],
     names: &[u8],
-) {
+) -> io::Result<()> {
     let mut words = [0u64; 64];
     let r = mask::logical_nulls(a, 10, ids, offsets, values, masks, names, &mut words);
     let w = Widths {
@@ -138,9 +143,11 @@ pub fn show(
         values: value_width(a, ids, offsets, values, masks, names),
     };
     if 0 < a.count {
-        heading(w);
+        heading(to, w)?;
     }
-    rows(a, a.count, w, r, &words, ids, offsets, values, masks, names);
-    output::text(b"   ");
-    null_masks::summary(r, a.count, 10);
+    rows(
+        to, a, a.count, w, r, &words, ids, offsets, values, masks, names,
+    )?;
+    output::text(to, b"   ")?;
+    null_masks::summary(to, r, a.count, 10)
 }

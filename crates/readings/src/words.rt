@@ -4,7 +4,7 @@ ghost use Rattle.std.specs.Prelude.{◌<◌, length};
 use union_names::names;
 
 // A word's bytes are `start` to `end` - 1; what follows starts at `next`. `found` says that there is one, `closed` that its last quote is there.
-#[derive(Drop)]
+#[derive(Clone, Copy)]
 pub struct Word {
     pub start: usize,
     pub end: usize,
@@ -18,7 +18,7 @@ fn is_blank(b: u8) -> bool {
 }
 
 // What a search looks for.
-#[derive(Drop)]
+#[derive(Clone, Copy)]
 enum Mark {
     Blank,
     NoBlank,

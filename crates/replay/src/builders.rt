@@ -2,12 +2,14 @@
 use crate::describe::Call;
 use crate::{describe, numbers, print};
 use program_kit::builders::{append, finish, make};
+use program_kit::output::Writer;
 use program_kit::{output, parts};
+use std::io;
 use union_array::UnionArray;
 use union_builder::UnionBuilder;
 
 // What calls are made on: the builder, and the array that it finished last or one of its slices.
-#[derive(Drop)]
+#[derive(Clone, Copy)]
 pub struct Subject {
     pub builder: UnionBuilder,
     pub array: UnionArray,
@@ -15,6 +17,7 @@ pub struct Subject {
 
 // Calls 20 and 21: the builder is the one made, refused or not.
 pub fn made(
+    to: &mut Writer,
     s: Subject,
     c: Call,
     ids: &[i8],
@@ -22,7 +25,7 @@ pub fn made(
     values: &[u64],
     masks: &[u64],
     names: &[u8],
-) -> Subject {
+) -> io::Result<Subject> {
     let m = make(
         c.op == 20,
         c.a as usize,
@@ -35,12 +38,13 @@ pub fn made(
     );
     let builder = m.builder;
     let array = s.array;
-    print::line(c, m.refusal);
-    Subject { builder, array }
+    print::line(to, c, m.refusal)?;
+    Ok(Subject { builder, array })
 }
 
 // Calls 22 and 23; the reading's three numbers are at a place, its name is in the text.
 pub fn appended(
+    to: &mut Writer,
     s: Subject,
     words: &[u64],
     readings: usize,
@@ -51,7 +55,7 @@ pub fn appended(
     values: &mut [u64],
     masks: &mut [u64],
     names: &mut [u8],
-) -> Subject {
+) -> io::Result<Subject> {
     let b = s.builder;
     let array = s.array;
     let reading = numbers::entry(readings, c.a);
@@ -61,22 +65,23 @@ pub fn appended(
     let null = c.op == 23;
     let r = append(b, name, kind, null, c.b, ids, offsets, values, masks, names);
     let builder = r.builder;
-    print::line(c, r.refusal);
-    Subject { builder, array }
+    print::line(to, c, r.refusal)?;
+    Ok(Subject { builder, array })
 }
 
 // Call 24.
-pub fn counted(s: Subject, c: Call) -> Subject {
+pub fn counted(to: &mut Writer, s: Subject, c: Call) -> io::Result<Subject> {
     let b = s.builder;
     let array = s.array;
     let l = b.len();
     let builder = l.builder;
-    print::told(c, 0, l.len as u64);
-    Subject { builder, array }
+    print::told(to, c, 0, l.len as u64)?;
+    Ok(Subject { builder, array })
 }
 
 // Calls 25 and 26, `finish_cloned` and `finish`: how many slots and fields the array has. A refused one leaves the array.
 pub fn finished(
+    to: &mut Writer,
     s: Subject,
     c: Call,
     ids: &[i8],
@@ -84,22 +89,22 @@ pub fn finished(
     values: &[u64],
     masks: &[u64],
     names: &[u8],
-) -> Subject {
+) -> io::Result<Subject> {
     let b = s.builder;
     let before = s.array;
     let f = finish(b, c.op == 26, ids, offsets, values, masks, names);
     let builder = f.builder;
     let a = f.array;
-    print::start(c, f.refusal);
+    print::start(to, c, f.refusal)?;
     if f.refusal != 0 {
-        output::end();
-        return Subject {
+        output::end(to)?;
+        return Ok(Subject {
             builder,
             array: before,
-        };
+        });
     }
-    output::size(a.count);
-    output::size(a.fields);
-    output::end();
-    Subject { builder, array: a }
+    output::size(to, a.count)?;
+    output::size(to, a.fields)?;
+    output::end(to)?;
+    Ok(Subject { builder, array: a })
 }

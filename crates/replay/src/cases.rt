@@ -3,6 +3,8 @@ use crate::builders::Subject;
 use crate::describe::Places;
 use crate::{calls, describe, lists, numbers};
 use program_kit::builders;
+use program_kit::output::Writer;
+use std::io;
 
 // Stores entry i of each part of a case's memory.
 fn put(
@@ -51,6 +53,7 @@ fn subject(words: &[u64], at: usize) -> Subject {
 
 // Runs the case at a place over memory that it fills; answers the place after it.
 fn case_in(
+    to: &mut Writer,
     words: &[u64],
     at: usize,
     text: &mut [u8],
@@ -59,11 +62,12 @@ fn case_in(
     values: &mut [u64],
     masks: &mut [u64],
     names: &mut [u8],
-) -> usize {
+) -> io::Result<usize> {
     let p = describe::locate(words, at);
     let n = describe::most_lent(words, p);
     fill(words, p, n, text, ids, offsets, values, masks, names);
     calls::run(
+        to,
         subject(words, at),
         words,
         p,
@@ -77,7 +81,7 @@ fn case_in(
 }
 
 // Runs the case at a place; answers the place after it.
-fn case(words: &[u64], at: usize) -> usize {
+fn case(to: &mut Writer, words: &[u64], at: usize) -> io::Result<usize> {
     let mut text = [0u8; 1024];
     let mut ids = [0i8; 65537];
     let mut offsets = [0i32; 65537];
@@ -85,6 +89,7 @@ fn case(words: &[u64], at: usize) -> usize {
     let mut masks = [0u64; 1024];
     let mut names = [0u8; 4096];
     case_in(
+        to,
         words,
         at,
         &mut text,
@@ -97,12 +102,13 @@ fn case(words: &[u64], at: usize) -> usize {
 }
 
 // Runs the cases, each of which begins with 1.
-pub fn run(words: &[u64]) {
+pub fn run(to: &mut Writer, words: &[u64]) -> io::Result<()> {
     let mut at: usize = 0;
     for _ in 0..words.len() {
         if numbers::get(words, at) != 1 {
-            return;
+            return Ok(());
         }
-        at = case(words, at);
+        at = case(to, words, at)?;
     }
+    Ok(())
 }

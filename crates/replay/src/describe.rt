@@ -7,7 +7,7 @@ use program_kit::parts;
 use union_array::UnionArray;
 
 // Where a case has its lists and its calls.
-#[derive(Drop)]
+#[derive(Clone, Copy)]
 pub struct Places {
     pub ids: usize,
     pub offsets: usize,
@@ -20,7 +20,7 @@ pub struct Places {
 }
 
 // A call: which one, its two arguments, whose word its answer is, and the part of memory that it is short of.
-#[derive(Drop)]
+#[derive(Clone, Copy)]
 pub struct Call {
     pub op: u64,
     pub a: u64,

@@ -28,7 +28,7 @@ fn store(out: &mut [u64], at: usize, n: u64) {
 }
 
 // How far a text is read: the number begun, and the place where it goes.
-#[derive(Drop)]
+#[derive(Clone, Copy)]
 struct Parsed {
     n: u64,
     at: usize,
