@@ -1,6 +1,6 @@
 /* Union arrays and their builder: the functions of libunion_ffi.a.
  *
- * Link with the archive that `rt staticlib union_ffi` writes, target/staticlib/libunion_ffi.a (x86-64).
+ * Link with the archive that `bindings/library` writes, target/staticlib/libunion_ffi.a (x86-64).
  *
  * A slice is a pointer and a count of elements. A slice of no elements wants a pointer that is not null. Slices that are
  * lent to one call do not overlap, unless a call reads both of them.

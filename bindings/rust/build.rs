@@ -1,4 +1,4 @@
-//! Finds the static library: in the folder that UNION_FFI_DIR names, else where `rt staticlib union_ffi` writes it.
+//! Finds the static library: in the folder that UNION_FFI_DIR names, else where `bindings/library` writes it.
 
 use std::env;
 use std::path::{Path, PathBuf};
@@ -22,7 +22,7 @@ fn main() {
     } else if !library.is_file() {
         println!("cargo::error=there is no {}", library.display());
         println!(
-            "cargo::error=make it by `rt staticlib union_ffi` in the repository, or name its folder in {VARIABLE}"
+            "cargo::error=make it by `bindings/library` in the repository, or name its folder in {VARIABLE}"
         );
     } else {
         println!("cargo::rustc-link-search=native={}", folder.display());

@@ -1,4 +1,4 @@
-//! The header and the Rust declarations have the fields of crates/union_c and the parameters of crates/union_ffi: the
+//! The header and the Rust declarations have the fields of crates/union_c and the parameters of crates/union_ffi_c: the
 //! same names and types, in the same order. A compiler sees no difference between two parameters of one type.
 
 use std::collections::BTreeMap;
@@ -118,13 +118,13 @@ fn parameter((name, kind): (String, String)) -> Vec<(String, String)> {
     }
 }
 
-/// The functions that crates/union_ffi exports.
+/// The functions that crates/union_ffi_c exports.
 fn exported() -> Declared {
-    let files = fs::read_dir(path("crates/union_ffi/src")).unwrap().map(|file| file.unwrap().file_name());
+    let files = fs::read_dir(path("crates/union_ffi_c/src")).unwrap().map(|file| file.unwrap().file_name());
     let mut all = Declared::new();
     for file in files {
-        let text = text(&format!("crates/union_ffi/src/{}", file.to_str().unwrap()));
-        for piece in text.split("#[no_mangle]\npub extern \"C\" fn ").skip(1) {
+        let text = text(&format!("crates/union_ffi_c/src/{}", file.to_str().unwrap()));
+        for piece in text.split("#[unsafe(no_mangle)]\npub extern \"C\" fn ").skip(1) {
             let (name, rest) = piece.split_once('(').unwrap();
             let (list, rest) = rest.split_once(')').unwrap();
             let mut parts: Vec<_> = named(list).into_iter().flat_map(parameter).collect();
