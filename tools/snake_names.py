@@ -17,7 +17,13 @@ DECLARED = re.compile(r"^(\s*)" + PREFIX + r"([^\s:(){}=.,;«»λ]+)(?:\s*\{[^}]
 TYPE = re.compile(r"^\s*(?:pub\s+)?(?:record|data)\s+([^\s:(){}]+)")
 IMPORT = re.compile(r"^\s*(?:pub\s+|ghost\s+)*use\s+([^{;\s]+?)\.\{([^}]*)\}", re.M)
 EDGE = r"[^\s(){}\[\].,;:=λ«»`\"]"
-BY_HAND = {"nullCount": "null_count_of"}  # the function `null_count` counts; this is a record of a count
+BY_HAND = {
+    "nullCount": "null_count_of",  # the function `null_count` counts; this is a record of a count
+    "noCColumn": "no_c_column",
+    "noCBuilder": "no_c_builder",
+    "noCBuilderColumn": "no_c_builder_column",
+    "noCNamePlace": "no_c_name_place",
+}
 
 
 def antt_files():
