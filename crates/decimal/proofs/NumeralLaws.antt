@@ -2,8 +2,8 @@
 use mathlib.Core.Path.{◌≡◌, refl, sym, ap, ◌∙◌, subst}
 use mathlib.Core.Bool.{Bool, true, false, cond, ◌&&◌}
 use mathlib.Core.List.{List, [], ◌∷◌, ◌++◌}
-use Prim.Native.Nat.{ℕ, zero, suc, ◌+◌, ◌-◌, ◌/◌, ◌%◌, ◌^◌, ◌<◌, ◌≤◌}
-use native.Mathlib.Nat.{le_trans, le_of_eq, not-le_of_lt, lt_of_not-le, lt_of_lt_of_le, pow-zero, pow-suc, pow-succ', one-le-pow, pow-le-pow_right, div-one, div-div-eq-div-mul, div-eq_of_lt, mod-eq_of_lt, div-lt_iff_lt-mul, le-div_iff_mul-le, one-mul, zero-add, suc-add}
+use Prim.Native.Nat.{ℕ, zero, suc, ◌+◌, ◌-◌, ◌*◌, ◌/◌, ◌%◌, ◌^◌, ◌<◌, ◌≤◌}
+use native.Mathlib.Nat.{le_trans, le_of_eq, not-le_of_lt, lt_of_not-le, lt_of_lt_of_le, pow-zero, pow-succ', one-le-pow, pow-le-pow_right, div-one, div-div-eq-div-mul, div-eq_of_lt, mod-eq_of_lt, div-lt_iff_lt-mul, le-div_iff_mul-le, one-mul, zero-add, suc-add}
 use native.Mathlib.Numerals.{add-one}
 use native.Mathlib.Omega.{arith}
 use lib.Dec.{ltb, eqb}
@@ -11,32 +11,12 @@ use lib.ListN.{length, length-append}
 use borrow.Author.Tests.{lt-ltb, eq-eqb, ltb-true, eqb-true}
 use Rattle.decimal.specs.Text.{glyph_of, last_digits, without_zeros, natural_text}
 
--- ---- how many digits: k so far, and n / 10 ^ k left
-
--- a digit is left
-pub places_more : (n k rest : ℕ) → rest ≡ n / 10 ^ k → 0 < rest → (10 ^ k ≤ n) × (rest / 10 ≡ n / 10 ^ (k + 1))
-places_more n k rest e h = (
-  rw one-mul at ((le-div_iff_mul-le {k = 10 ^ k} {x = 1} {y = n} (one-le-pow k 10 (omega arith))).0 (subst (λ (x : ℕ). 0 < x) e h)),
-  ap (λ (x : ℕ). x / 10) e ∙ div-div-eq-div-mul n (10 ^ k) 10 ∙ ap (λ (x : ℕ). n / x) (sym (ap (λ (x : ℕ). 10 ^ x) (add-one k) ∙ pow-suc 10 k)),
-)
-
--- none is
-pub places_end : (n k rest : ℕ) → rest ≡ n / 10 ^ k → rest ≤ 0 → n < 10 ^ k
-places_end n k rest e h =
-    rw one-mul at ((div-lt_iff_lt-mul {k = 10 ^ k} {x = n} {y = 1} (one-le-pow k 10 (omega arith))).0 (omega arith))
-
 -- a number below 2 ^ 64 has 20 digits at most
-pub places_few : (n k : ℕ) → n < 2 ^ 64 → 10 ^ k ≤ n → k < 20
+places_few : (n k : ℕ) → n < 2 ^ 64 → 10 ^ k ≤ n → k < 20
 places_few n k h l = lt_of_not-le (λ (g : 20 ≤ k). not-le_of_lt h (le_trans (le_trans (lit k g) l) (le_of_eq refl)))
   where
     lit : (k : ℕ) → 20 ≤ k → 2 ^ 64 ≤ 10 ^ k
     lit k g = le_trans (omega arith) (pow-le-pow_right {n = 10} (omega arith) g)
-
-pub more_fewest : (n k : ℕ) → 10 ^ k ≤ n → 10 ^ (k + 1 - 1) ≤ n
-more_fewest n k h = subst (λ (x : ℕ). 10 ^ x ≤ n) (same k) h
-  where
-    same : (k : ℕ) → k ≡ k + 1 - 1
-    same k = omega arith
 
 -- ---- the last digits
 
@@ -103,9 +83,6 @@ pub numeral_few : (n : ℕ) → length (natural_text n) ≤ 20
 unfolding natural_text
 numeral_few n = subst (λ (k : ℕ). length (without_zeros (last_digits 10 20 n)) ≤ k) (digits_length 10 20 n) (stripped_le (last_digits 10 20 n))
 
-pub numeral_end : (n at r : ℕ) → r ≡ at + length (natural_text n) → r ≤ at + 20
-numeral_end n at r e = omega (arith, numeral_few n)
-
 -- ---- the digits of a number that k digits hold
 
 module _ (n k : ℕ) (some : 1 ≤ k) (holds : n < 10 ^ k) where
@@ -159,3 +136,15 @@ numeral_places n k w some holds fewest =
 
     all : (k : ℕ) → k ≤ 20 → 20 - k + k ≡ 20
     all k h = omega arith
+
+-- ---- by the largest power of ten that is no larger
+
+pub numeral_zero : (n : ℕ) → n ≡ 0 → 1 ≡ length (natural_text n)
+numeral_zero n e = numeral_places n 1 (omega arith) (omega arith) (omega arith) (λ g. absurd (omega arith))
+
+pub numeral_log : (n k : ℕ) → n < 2 ^ 64 → 10 ^ k ≤ n → n < 10 * 10 ^ k → k + 1 ≡ length (natural_text n)
+numeral_log n k w low high =
+    numeral_places n (k + 1) w (omega arith) (subst (λ (x : ℕ). n < x) (sym (ap (λ (x : ℕ). 10 ^ x) (add-one k) ∙ pow-succ' 10 k)) high) (λ g. subst (λ (x : ℕ). 10 ^ x ≤ n) (same k) low)
+  where
+    same : (k : ℕ) → k ≡ k + 1 - 1
+    same k = omega arith

@@ -3,41 +3,21 @@ use mathlib.Core.Path.{◌≡◌, refl, sym, ap, ◌∙◌, subst}
 use mathlib.Core.Bool.{Bool, true, false, cond}
 use mathlib.Core.List.{List, [], ◌∷◌, ◌++◌, append_assoc}
 use Prim.Native.Nat.{ℕ, zero, suc, ◌+◌, ◌-◌, ◌*◌, ◌/◌, ◌%◌, ◌^◌, ◌<◌, ◌≤◌}
-use native.Mathlib.Nat.{le_trans, lt_of_not-le, pow-zero, pow-suc, div-add-mod, mod-lt, div-le_self, div-lt_iff_lt-mul, add-zero, add-suc}
+use native.Mathlib.Nat.{le_trans, lt_of_not-le, pow-zero, pow-suc, div-add-mod, mod-lt, div-le_self, div-lt_iff_lt-mul}
 use native.Mathlib.Omega.{arith}
+use borrow.Rule.Slice.PartMut.{put_mid}
 use lib.Dec.{leb, ltb}
-use lib.ListN.{length, take, drop, set, length-set, length-append, take-append-drop}
-use lib.Seq.{drop-cons, drop-drop, drop-append-add, take-set-le, drop-set-lt, get_or-set_same, take_at}
-use borrow.Author.Tests.{lt-ltb, le-ltb, le-leb, lt-leb}
-use Rattle.decimal.specs.declared.Bits.TheVariants.{Of}
+use lib.ListN.{drop_of_length-le, length, take, drop, set, length-append}
+use lib.Seq.{length-take-le, drop-drop, take_at}
+use borrow.Author.Tests.{lt-ltb, le-ltb, lt-leb}
+use Rattle.std.specs.Prelude.{Some}
+use Rattle.std.proofs.lemmas.List.{append-nil}
 use Rattle.decimal.specs.Digits.{digit_of, number_of}
 use Rattle.decimal.specs.Text.{glyph_of, last_digits, natural_text, integer_text, Output, output}
-use Rattle.decimal.specs.Written.{hex_text, put_at}
+use Rattle.decimal.specs.Written.{hex_text}
 use Rattle.decimal.proofs.DigitLaws.{digit_1, digit_3, number_then, number_digit, number_none}
+use Rattle.decimal.proofs.IntegerLaws.{tail_is}
 use Rattle.decimal.proofs.NumeralLaws.{digits_length, numeral_last, numeral_few}
-
--- ---- digits put in from the last to the first: the whole, with `left` digits to go
-
-abbrev pub Whole : ℕ → ℕ → ℕ → ℕ → List ℕ → List ℕ
-Whole base at left rest out = take at out ++ (last_digits base left rest ++ drop (at + left) out)
-
-pub turn_puts : (base at l rest : ℕ) (out : List ℕ) → at + suc l ≤ length out → Whole base at (suc l) rest out ≡ Whole base at l (rest / base) (set out (at + l) (glyph_of (rest % base)))
-unfolding last_digits
-turn_puts base at l rest out h =
-    let g = glyph_of (rest % base) in
-    let out' = set out (at + l) g in
-    let i : at + l < length out = let e = add-suc at l in omega arith in
-    let t : take at out' ≡ take at out = take-set-le at out (at + l) g (omega arith) in
-    let d : drop (at + l) out' ≡ g ∷ drop (at + suc l) out =
-    drop-cons out' (at + l) 0 (simp length-set (omega arith))
-    ∙ ap (λ (x : ℕ). x ∷ drop (suc (at + l)) out') (get_or-set_same out (at + l) g 0 i)
-    ∙ ap (λ (x : List ℕ). g ∷ x) (drop-set-lt (suc (at + l)) out (at + l) g (omega arith) ∙ ap (λ (x : ℕ). drop x out) (sym (add-suc at l))) in
-    ap (λ (x : List ℕ). x ++ ((last_digits base l (rest / base) ++ (g ∷ [])) ++ drop (at + suc l) out)) (sym t)
-    ∙ ap (λ (x : List ℕ). take at out' ++ x) (append_assoc (last_digits base l (rest / base)) (g ∷ []) (drop (at + suc l) out) ∙ ap (λ (x : List ℕ). last_digits base l (rest / base) ++ x) (sym d))
-
-pub whole_end : (base at rest : ℕ) (out : List ℕ) → Whole base at 0 rest out ≡ out
-unfolding last_digits
-whole_end base at rest out = ap (λ (x : ℕ). take at out ++ drop x out) (add-zero at) ∙ take-append-drop at out
 
 -- ---- digits read back
 
@@ -63,9 +43,9 @@ glyph_back d h = go (ltb d 10) (lt-ltb d 10) (le-ltb d 10)
         at_least : (d < 10 → ⊥) → 10 ≤ d
         at_least n = omega (arith, n)
 
-pub digits_back : (base k n most : ℕ) → 0 < base → base ≤ 16 → n < base ^ k → n ≤ most → number_of base 0 (last_digits base k n) most ≡ Of n
+pub digits_back : (base k n most : ℕ) → 0 < base → base ≤ 16 → n < base ^ k → n ≤ most → number_of base 0 (last_digits base k n) most ≡ Some n
 unfolding last_digits
-digits_back base zero n most p q h l = number_none base 0 most (omega arith) ∙ ap Of (let e : n < 1 = rw pow-zero at h in omega arith)
+digits_back base zero n most p q h l = number_none base 0 most (omega arith) ∙ ap Some (let e : n < 1 = rw pow-zero at h in omega arith)
 digits_back base (suc k) n most p q h l =
     let r = n % base in
     let v = n / base in
@@ -81,82 +61,66 @@ digits_back base (suc k) n most p q h l =
     ∙ ap (λ (x : ℕ). number_of base x [] most) s
     ∙ number_none base n most l
 
--- ---- in the code's own terms
-
-pub turn_left : (base at left rest g : ℕ) (out : List ℕ) → 0 < left → at + left ≤ length out → g ≡ glyph_of (rest % base) → Whole base at left rest out ≡ Whole base at (left - 1) (rest / base) (set out (at + (left - 1)) g)
-turn_left base at zero rest g out p h e = elim p [ ]
-turn_left base at (suc l) rest g out p h e =
-    turn_puts base at l rest out h
-    ∙ ap (λ (n : ℕ). Whole base at n (rest / base) (set out (at + n) (glyph_of (rest % base)))) (less l)
-    ∙ ap (λ (x : ℕ). Whole base at (suc l - 1) (rest / base) (set out (at + (suc l - 1)) x)) (sym e)
-  where
-    less : (n : ℕ) → n ≡ suc n - 1
-    less n = omega arith
-
-pub left_none : (base at left rest : ℕ) (out : List ℕ) → left ≤ 0 → Whole base at left rest out ≡ out
-left_none base at left rest out h = ap (λ (n : ℕ). Whole base at n rest out) (none left h) ∙ whole_end base at rest out
-  where
-    none : (n : ℕ) → n ≤ 0 → n ≡ 0
-    none n k = omega arith
-
-pub glyph_low : (d : ℕ) → d < 10 → 48 + d ≡ glyph_of d
-glyph_low d h = rw (lt-ltb d 10 h)
-
-pub glyph_high : (d : ℕ) → 10 ≤ d → 87 + d ≡ glyph_of d
-glyph_high d h = rw (le-ltb d 10 h)
-
--- ---- what is in a buffer
-
--- the digits of a number
-pub put_digits : (base at count n : ℕ) (was now : List ℕ) → now ≡ Whole base at count n was → now ≡ put_at at (last_digits base count n) was
-put_digits base at count n was now e = e ∙ ap (λ (k : ℕ). take at was ++ (last_digits base count n ++ drop (at + k) was)) (sym (digits_length base count n))
-
--- a number's digits, as many as it has
-pub put_numeral : (n at k : ℕ) (was now : List ℕ) → k ≡ length (natural_text n) → now ≡ put_at at (last_digits 10 k n) was → now ≡ put_at at (natural_text n) was
-put_numeral n at k was now e w = w ∙ ap (λ (text : List ℕ). put_at at text was) (ap (λ (x : ℕ). last_digits 10 x n) e ∙ numeral_last n)
+-- ---- what the writers leave
 
 -- an answer and bytes that are equal
 output_same : (r s : ℕ) (b c : List ℕ) → r ≡ s → b ≡ c → ◌≡◌ {A = Output} (record { size = r; bytes = b }) (record { size = s; bytes = c })
 output_same r s b c p q = cc
 
--- a text put in after first bytes, which may be none
-pub output-after : (first text was mid now : List ℕ) (r : ℕ) → mid ≡ first ++ drop (length first) was → r ≡ length first + length text → now ≡ put_at (length first) text mid → record { size = r; bytes = now } ≡ output (first ++ text) was
-output-after first text was mid now r m e w =
-    output_same r (length (first ++ text)) now ((first ++ text) ++ drop (length (first ++ text)) was) (e ∙ sym all)
-    (w
-    ∙ ap (λ (l : List ℕ). put_at (length first) text l) m
-    ∙ ap (λ (l : List ℕ). l ++ (text ++ drop (length first + length text) (first ++ drop (length first) was))) (take_at first (drop (length first) was) (length first) refl)
-    ∙ ap (λ (l : List ℕ). first ++ (text ++ l)) (drop-append-add first (drop (length first) was) (length text) ∙ drop-drop (length text) (length first) was ∙ ap (λ (k : ℕ). drop k was) (sym all))
-    ∙ sym (append_assoc first text (drop (length (first ++ text)) was)))
-  where
-    all : length (first ++ text) ≡ length first + length text
-    all = length-append first text
+-- a text after first bytes
+output_after : (first text was : List ℕ) → ◌≡◌ {A = Output} (record { size = length first + length text; bytes = first ++ (text ++ drop (length text) (drop (length first) was)) }) (output (first ++ text) was)
+output_after first text was =
+    output_same _ _ _ _ (sym (length-append first text))
+    (sym (append_assoc first text _)
+    ∙ ap (λ (l : List ℕ). (first ++ text) ++ l) (drop-drop (length text) (length first) was ∙ ap (λ (k : ℕ). drop k was) (sym (length-append first text))))
 
-one_set : (b : ℕ) (was : List ℕ) → 1 ≤ length was → set was 0 b ≡ b ∷ drop 1 was
-one_set b [] h = absurd (let g : 1 ≤ 0 = h in omega arith)
-one_set b (x ∷ xs) h = refl
+pub natural_out : (n count : ℕ) (was digits : List ℕ) → count ≡ length (natural_text n) → count ≤ length was → digits ≡ last_digits 10 (length (take count was)) n → record { size = count; bytes = digits ++ drop count was } ≡ output (natural_text n) was
+natural_out n count was digits e h w =
+    let d : digits ≡ natural_text n = w ∙ ap (λ (k : ℕ). last_digits 10 k n) (length-take-le count was h ∙ e) ∙ numeral_last n in
+    output_same _ _ _ _ e (rw (d, e))
 
-two_set : (a b : ℕ) (was : List ℕ) → 2 ≤ length was → set (set was 0 a) 1 b ≡ a ∷ (b ∷ drop 2 was)
-two_set a b [] h = absurd (let g : 2 ≤ 0 = h in omega arith)
-two_set a b (x ∷ []) h = absurd (let g : 2 ≤ 1 = h in omega arith)
-two_set a b (x ∷ (y ∷ xs)) h = refl
-
--- ---- what the writers leave
-
-pub integer_plain_out : (bits highest : ℕ) (was now : List ℕ) (r : ℕ) → bits ≤ highest → r ≡ 0 + length (natural_text bits) → now ≡ put_at 0 (natural_text bits) was → record { size = r; bytes = now } ≡ output (integer_text bits highest) was
+pub integer_minus_out : (bits highest m : ℕ) (was now : List ℕ) (r : ℕ) → highest < bits → 1 ≤ length was → m ≡ 2 * highest + 2 - bits
+    → record { size = r; bytes = now } ≡ output (natural_text m) (take (length (set was 0 45) - 1) (drop 1 (set was 0 45)))
+    → record { size = 1 + r; bytes = put_mid 1 (length (set was 0 45) - 1) (set was 0 45) now } ≡ output (integer_text bits highest) was
 unfolding integer_text
-integer_plain_out bits highest was now r h e w = rw (le-leb bits highest h) (output-after [] (natural_text bits) was was now r refl e w)
-
-pub integer_minus_out : (bits highest m : ℕ) (was now : List ℕ) (r : ℕ) → highest < bits → 1 ≤ length was → m ≡ 2 * highest + 2 - bits → r ≡ 1 + length (natural_text m) → now ≡ put_at 1 (natural_text m) (set was 0 45) → record { size = r; bytes = now } ≡ output (integer_text bits highest) was
-unfolding integer_text
-integer_minus_out bits highest m was now r h k s e w =
+integer_minus_out bits highest m [] now r h k s e = absurd (let g : 1 ≤ 0 = k in omega arith)
+integer_minus_out bits highest m (x ∷ xs) now r h k s e =
+    let size : r ≡ length (natural_text m) = ap (λ (o : Output). o.size) e in
+    let bytes : now ≡ natural_text m ++ drop (length (natural_text m)) xs =
+    ap (λ (o : Output). o.bytes) e ∙ ap (λ (l : List ℕ). natural_text m ++ drop (length (natural_text m)) l) (tail_is (x ∷ xs) 1) in
     rw (lt-leb bits highest h)
-    (output-after (45 ∷ []) (natural_text m) was (set was 0 45) now r (one_set 45 was k) e w ∙ ap (λ (x : ℕ). output (45 ∷ natural_text x) was) s)
+    (output_same _ _ _ _ (ap (λ (k : ℕ). 1 + k) size) (ap (λ (l : List ℕ). 45 ∷ l) (rest ∙ bytes))
+    ∙ output_after (45 ∷ []) (natural_text m) (x ∷ xs)
+    ∙ ap (λ (n : ℕ). output (45 ∷ natural_text n) (x ∷ xs)) s)
+  where
+    rest : now ++ drop (suc (length xs) - 1) xs ≡ now
+    rest = ap (λ (l : List ℕ). now ++ l) (drop_of_length-le xs {i = suc (length xs) - 1} (omega arith)) ∙ append-nil now
 
-pub hex_out : (bits count : ℕ) (was now : List ℕ) → 2 ≤ length was → now ≡ put_at 2 (last_digits 16 count bits) (set (set was 0 48) 1 120) → record { size = 2 + count; bytes = now } ≡ output (hex_text bits count) was
+pub hex_out : (bits count : ℕ) (was head digits : List ℕ) → 2 + count ≤ length was → head ≡ 48 ∷ (120 ∷ []) → digits ≡ last_digits 16 (length (take (2 + count - 2) (drop 2 (head ++ drop 2 was)))) bits
+    → record { size = 2 + count; bytes = put_mid 2 (2 + count - 2) (head ++ drop 2 was) digits } ≡ output (hex_text bits count) was
 unfolding hex_text
-hex_out bits count was now h w =
-    output-after (48 ∷ (120 ∷ [])) (last_digits 16 count bits) was (set (set was 0 48) 1 120) now (2 + count) (two_set 48 120 was h) (ap (λ (k : ℕ). 2 + k) (sym (digits_length 16 count bits))) w
+hex_out bits count [] head digits h e w = absurd (let g : 2 + count ≤ 0 = h in omega arith)
+hex_out bits count (x ∷ []) head digits h e w = absurd (let g : 2 + count ≤ 1 = h in omega arith)
+hex_out bits count (x ∷ y ∷ xs) head digits h e w =
+    rw e
+    (output_same _ _ _ _ (size (length (last_digits 16 count bits)) (digits_length 16 count bits))
+    (ap (λ (l : List ℕ). 48 ∷ (120 ∷ l)) (rw (all, k) (ap (λ (n : ℕ). last_digits 16 count bits ++ drop n xs) (sym (digits_length 16 count bits))))))
+  where
+    k : 2 + count - 2 ≡ count
+    k = omega arith
+
+    fits : count ≤ length xs
+    fits = let g : 2 + count ≤ suc (suc (length xs)) = h in omega arith
+
+    size : (n : ℕ) → n ≡ count → 2 + count ≡ suc (suc n)
+    size n z = omega arith
+
+    all : digits ≡ last_digits 16 count bits
+    all =
+        w
+        ∙ ap (λ (l : List ℕ). last_digits 16 (length (take (2 + count - 2) (drop 2 (l ++ xs)))) bits) e
+        ∙ ap (λ (n : ℕ). last_digits 16 (length (take n xs)) bits) k
+        ∙ ap (λ (n : ℕ). last_digits 16 n bits) (length-take-le count xs fits)
 
 -- so many bytes at the start are the text
 pub output_text : (text was now : List ℕ) (r : ℕ) → record { size = r; bytes = now } ≡ output text was → take r now ≡ text

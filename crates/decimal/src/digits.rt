@@ -1,52 +1,35 @@
 // Rows of digits in a base of at most 16.
 ghost use Rattle.std.specs.Prelude.{◌≡◌, ◌<◌, ◌≤◌};
-ghost use Rattle.decimal.specs.Digits.{digit_of, number_of};
+ghost use Rattle.decimal.specs.Digits.{digit_in, number_of};
 
-use crate::Bits;
-
-// A digit's value, and 16 for any other byte.
-pub(crate) fn digit(b: u8) -> u64
-    ensures { result ≡ digit_of b }
+// A digit's value, if it is a digit of the base.
+#[tactic(auto, unfolding(crate::specs::Digits::digit_of))]
+fn digit(b: u8, base: u64) -> Option<u64>
+    ensures { result ≡ digit_in base b }
 {
-    if b < 48 {
-        return 16;
-    }
-    if b < 58 {
-        return (b - 48) as u64;
-    }
-    if b < 65 {
-        return 16;
-    }
-    if b < 71 {
-        return (b - 55) as u64;
-    }
-    if b < 97 {
-        return 16;
-    }
-    if b < 103 {
-        return (b - 87) as u64;
-    }
-    16
+    // Any other byte counts as 16, which no base here has as a digit.
+    let d = match b {
+        b'0'..=b'9' => u64::from(b - b'0'),
+        b'A'..=b'F' => u64::from(b - b'A') + 10,
+        b'a'..=b'f' => u64::from(b - b'a') + 10,
+        _ => 16,
+    };
+    (d < base).then_some(d)
 }
 
 // The number `start` with the digits of `text` after it, if they are digits and it is at most `most`.
-pub fn number(start: u64, text: &[u8], base: u64, most: u64) -> Bits
+#[tactic(auto, using(crate::proofs::DigitLaws::turn_none, crate::proofs::DigitLaws::turn_digit, crate::proofs::DigitLaws::turn_past, crate::proofs::DigitLaws::turn_end))]
+pub fn number(start: u64, text: &[u8], base: u64, most: u64) -> Option<u64>
     requires { (0 < base) × (start ≤ most) }
     ensures { result ≡ number_of base start text.now most }
 {
     let mut n = start;
-    for i in 0..text.len() {
-        let d = digit(text[i]);
-        if base <= d {
-            return Bits::Refused;
+    for &b in text {
+        let d = digit(b, base)?;
+        n = base.checked_mul(n)?.checked_add(d)?;
+        if most < n {
+            return None;
         }
-        if most < d {
-            return Bits::Refused;
-        }
-        if (most - d) / base < n {
-            return Bits::Refused;
-        }
-        n = base * n + d;
     }
-    Bits::Of(n)
+    Some(n)
 }

@@ -2,30 +2,23 @@
 ghost use Rattle.std.specs.Prelude.{◌≡◌};
 ghost use Rattle.decimal.specs.Integers.{is_hex, hex_of};
 
-use crate::{Bits, digits};
+use crate::digits;
 
 // Whether the text begins with 0x.
+#[tactic(auto, unfolding(crate::specs::Integers::is_hex))]
 pub fn is_hex(text: &[u8]) -> bool
     ensures { result ≡ is_hex text.now }
 {
-    if text.len() < 2 {
-        return false;
-    }
-    if text[0] != b'0' {
-        return false;
-    }
-    text[1] == b'x'
+    matches!(text, [b'0', b'x', ..])
 }
 
 // The bits that 0x and `count` digits tell.
-pub fn read_hex(text: &[u8], count: usize) -> Bits
+#[tactic(auto, unfolding(crate::specs::Integers::hex_of, crate::specs::Integers::is_hex))]
+pub fn read_hex(text: &[u8], count: usize) -> Option<u64>
     ensures { result ≡ hex_of text.now count }
 {
-    if !is_hex(text) {
-        return Bits::Refused;
+    match text {
+        [b'0', b'x', row @ ..] if row.len() == count => digits::number(0, row, 16, u64::MAX),
+        _ => None,
     }
-    if text.len() - 2 != count {
-        return Bits::Refused;
-    }
-    digits::number(0, &text[2..], 16, 0xffff_ffff_ffff_ffff)
 }

@@ -5,10 +5,3 @@ pub mod digits;
 pub mod hex;
 pub mod integer;
 pub mod write;
-
-// What reading a text answers: a value's bits, or that the text is no such value.
-#[derive(Clone, Copy)]
-pub enum Bits {
-    Of(u64),
-    Refused,
-}

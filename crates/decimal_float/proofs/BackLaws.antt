@@ -4,11 +4,8 @@ use mathlib.Core.Bool.{true}
 use mathlib.Core.List.{List}
 use Prim.Native.Nat.{ℕ, suc, ◌+◌, ◌-◌, ◌*◌, ◌^◌, ◌<◌, ◌≤◌}
 use native.Mathlib.Omega.{arith}
-use lib.Dec.{eqb}
 use lib.ListN.{length, take, drop}
-use borrow.Author.Tests.{eqb-true}
-use Rattle.decimal.specs.declared.Bits.{Bits}
-use Rattle.decimal.specs.declared.Bits.TheVariants.{Of}
+use Rattle.std.specs.Prelude.{Some}
 use Rattle.decimal.specs.Digits.{number_of}
 use Rattle.decimal.specs.Integers.{is_hex}
 use Rattle.decimal.specs.Text.{last_digits, Output, output}
@@ -20,9 +17,6 @@ use Rattle.decimal_float.specs.declared.Format.{Format}
 use Rattle.decimal_float.specs.declared.Format.TheVariants.{Binary32, Binary64}
 use Rattle.decimal_float.specs.Floats.{sign_weight, hex_digits, float_of}
 use Rattle.decimal_float.proofs.FloatLaws.{float_hex}
-
-pub reads : (f : Format) (text : List ℕ) (b : Bits) (n bits : ℕ) → b ≡ float_of f text → b ≡ Of n → eqb n bits ≡ true → float_of f text ≡ Of bits
-reads f text b n bits p q e = sym p ∙ q ∙ ap Of (eqb-true n bits e)
 
 -- ---- a float's bits in hexadecimal read back
 
@@ -60,14 +54,14 @@ module _ (f : Format) (bits : ℕ) (h : bits < 2 * sign_weight f) where
   unfolding told hex_text
   tail = refl
 
-  told_back : float_of f told ≡ Of bits
+  told_back : float_of f told ≡ Some bits
   told_back =
       sym (float_hex f told true (λ z. let g = long in omega arith) begins refl)
       ∙ sym (hex_digits_lem told (hex_digits f) true begins refl sized)
       ∙ ap (λ (x : List ℕ). number_of 16 0 x (2 ^ 64 - 1)) (tail_is told 2 ∙ tail)
       ∙ digits_back 16 (hex_digits f) bits (2 ^ 64 - 1) (omega arith) (omega arith) (hex_holds f bits h).0 (hex_holds f bits h).1
 
-  pub hex_back : (count : ℕ) (was now : List ℕ) (r : ℕ) → count ≡ hex_digits f → record { size = r; bytes = now } ≡ output (hex_text bits count) was → (r ≤ 37) × (float_of f (take r now) ≡ Of bits)
+  pub hex_back : (count : ℕ) (was now : List ℕ) (r : ℕ) → count ≡ hex_digits f → record { size = r; bytes = now } ≡ output (hex_text bits count) was → (r ≤ 37) × (float_of f (take r now) ≡ Some bits)
   unfolding told hex_text
   hex_back count was now r c e =
       let s : r ≡ 2 + count = ap (λ (o : Output). o.size) e ∙ size (last_digits 16 count bits) (digits_length 16 count bits) in

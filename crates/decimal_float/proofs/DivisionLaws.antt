@@ -2,7 +2,7 @@
 use mathlib.Core.Path.{◌≡◌, refl, sym, ap, ◌∙◌, subst}
 use mathlib.Core.Bool.{not}
 use Prim.Native.Nat.{ℕ, zero, suc, ◌+◌, ◌-◌, ◌*◌, ◌/◌, ◌%◌, ◌^◌, ◌<◌, ◌≤◌, compare, Ordering}
-use native.Mathlib.Nat.{le_antisymm, mul_comm, mul_assoc, mul_left_comm, mul-add, mul-suc, one-mul, mul-one, mul-le-mul_left, mul-le-mul_right, pow-suc, pow-succ', div-add-mod, mod-lt, mod-eq_of_lt, div-eq_of_lt, mul-add-div, div-div-eq-div-mul, add-mul-mod_self_left, add-zero}
+use native.Mathlib.Nat.{lt_of_not-le, not-le_of_lt, mul-le-mul_right, mul_comm, mul_assoc, mul_left_comm, mul-add, mul-suc, one-mul, mul-one, mul-le-mul_left, pow-suc, pow-succ', div-add-mod, mod-lt, mod-eq_of_lt, div-eq_of_lt, mul-add-div, div-div-eq-div-mul, add-mul-mod_self_left, add-zero}
 use native.Mathlib.Numerals.{add-one}
 use native.Mathlib.Omega.{arith}
 use lib.Dec.{T, is_le, compare_is_eq, eqb, leb→le, nleb→lt, eqb→eq, eqb_refl}
@@ -26,17 +26,6 @@ module _ (m d whole rest steps : ℕ) (parts : m * 2 ^ steps ≡ d * whole + res
       let e = turn_0 in
       let g : d * (2 * whole + 1) ≡ d * (2 * whole) + d = mul-add d (2 * whole) 1 ∙ ap (λ (x : ℕ). d * (2 * whole) + x) (mul-one d) in
       omega arith
-
-  -- after 113 turns there are 63 digits
-  pub enough : 0 < m → d ≤ 10 ^ 15 → rest < d → 113 ≤ steps → steps ≤ 113 → 2 ^ 62 ≤ whole
-  enough h k l a b =
-      let s : steps ≡ 113 = omega arith in
-      let e : m * 2 ^ 113 ≡ d * whole + rest = subst (λ (x : ℕ). m * 2 ^ x ≡ d * whole + rest) s parts in
-      let g : d * whole ≤ 10 ^ 15 * whole = mul-le-mul_right whole k in
-      omega arith
-
-pub first_parts : (m d : ℕ) → m * 2 ^ 0 ≡ d * (m / d) + m % d
-first_parts m d = mul-one m ∙ sym (div-add-mod m d)
 
 -- ---- the rounding
 
@@ -153,25 +142,32 @@ module _ (whole rest drop : ℕ) (low : 0 < drop) (high : drop < 63) where
   cut_at : whole % Wide ≡ Half → whole % 2 ^ drop ≡ 2 ^ (drop - 1)
   cut_at h = rw half_is at (rw wide_is at h)
 
-  pub wide_pos : 0 < Wide
-  wide_pos = rw wide_is (pow_pos drop)
-
   pub rounds_down : whole % Wide < Half → Rounds (whole / 2 ^ drop)
   rounds_down h d s = round_down d whole rest (2 ^ drop) s (pow_pos drop) (2 ^ (drop - 1)) (two_halves drop low) (cut_below h)
 
   pub rounds_up : Half < whole % Wide → Rounds (whole / 2 ^ drop + 1)
   rounds_up h d s = round_up d whole rest (2 ^ drop) s (pow_pos drop) (2 ^ (drop - 1)) (two_halves drop low) (cut_above h)
 
-  pub rounds_past : Half ≤ whole % Wide → whole % Wide ≤ Half → (rest ≡ 0 → ⊥) → Rounds (whole / 2 ^ drop + 1)
-  rounds_past h k n d s = round_past d whole rest (2 ^ drop) s (pow_pos drop) (2 ^ (drop - 1)) (two_halves drop low) (cut_at (le_antisymm k h)) n
+  pub rounds_past : whole % Wide ≡ Half → (rest ≡ 0 → ⊥) → Rounds (whole / 2 ^ drop + 1)
+  rounds_past h n d s = round_past d whole rest (2 ^ drop) s (pow_pos drop) (2 ^ (drop - 1)) (two_halves drop low) (cut_at h) n
 
-  pub rounds_tie : Half ≤ whole % Wide → whole % Wide ≤ Half → rest ≡ 0 → Rounds (whole / 2 ^ drop + whole / 2 ^ drop % 2)
-  rounds_tie h k n d s = round_tie d whole rest (2 ^ drop) s (pow_pos drop) (2 ^ (drop - 1)) (two_halves drop low) (cut_at (le_antisymm k h)) n
+  pub rounds_tie : whole % Wide ≡ Half → rest ≡ 0 → Rounds (whole / 2 ^ drop + whole / 2 ^ drop % 2)
+  rounds_tie h n d s = round_tie d whole rest (2 ^ drop) s (pow_pos drop) (2 ^ (drop - 1)) (two_halves drop low) (cut_at h) n
 
 -- ---- a turn of the loop
 
 abbrev pub Turned : ℕ → ℕ → ℕ → ℕ → ℕ → Type 0
 Turned m d whole rest steps = (m * 2 ^ steps ≡ d * whole + rest) × (rest < d) × (whole < 2 ^ 63) × (steps ≤ 113)
+
+-- after 113 turns there are 63 digits
+pub turns_left : (m d whole rest steps : ℕ) → 0 < m → d ≤ 10 ^ 15 → Turned m d whole rest steps → whole < 2 ^ 62 → steps < 113
+turns_left m d whole rest steps h k was few = lt_of_not-le (λ (g : 113 ≤ steps). not-le_of_lt few (enough (omega (arith, g))))
+  where
+    enough : steps ≡ 113 → 2 ^ 62 ≤ whole
+    enough s =
+        let e : m * 2 ^ 113 ≡ d * whole + rest = subst (λ (x : ℕ). m * 2 ^ x ≡ d * whole + rest) s was.0 in
+        let g : d * whole ≤ 10 ^ 15 * whole = mul-le-mul_right whole k in
+        omega arith
 
 module _ (m d whole rest steps w r : ℕ) (was : Turned m d whole rest steps) (few : whole < 2 ^ 62) (more : steps < 113) where
   pub turned_0 : 2 * rest < d → w ≡ 2 * whole → r ≡ 2 * rest → Turned m d w r (steps + 1)

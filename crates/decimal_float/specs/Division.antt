@@ -5,11 +5,13 @@ use Rattle.std.specs.Float.Ieee.Nearest.{closest}
 use Rattle.decimal_float.specs.declared.Format.{Format}
 use Rattle.decimal_float.specs.declared.Sizes.{Sizes}
 use Rattle.decimal_float.specs.declared.Quotient.{Quotient}
-use Rattle.decimal_float.specs.Floats.{ieee}
+use Rattle.decimal_float.specs.Floats.{ieee, sign_weight, hex_digits}
 
 pub record SizesOf (f : Format) (r : Sizes) : Type 0 where
   pub precision : r.precision ≡ prec (ieee f)
   pub emax : r.emax ≡ emax (ieee f)
+  pub sign : r.sign ≡ sign_weight f
+  pub hex_digits : r.hex_digits ≡ hex_digits f
 
 -- m with `steps` binary digits 0 after it, divided by d: 63 binary digits, and a rest
 pub record Divided (m d : ℕ) (r : Quotient) : Type 0 where

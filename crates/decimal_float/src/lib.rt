@@ -1,42 +1,57 @@
 // Floats as text and back: decimals of at most 15 digits, or the bits in hexadecimal.
 #![tactic(auto)]
 
+ghost use Rattle.std.specs.Prelude.{◌≡◌, cond};
+ghost use Rattle.decimal_float.specs.Floats.{sign_weight};
+ghost use Rattle.decimal_float.specs.Division.{SizesOf};
+
 pub mod float;
 mod rounding;
 pub mod write_float;
 
 // The float formats of IEEE 754 that the kinds Float32 and Float64 have.
-#[derive(Clone, Copy)]
+#[derive(Clone, Copy, Debug, PartialEq, Eq)]
 pub enum Format {
     Binary32,
     Binary64,
 }
 
-// A format's numbers: the digits of a significand, and the exponent of the largest values.
-#[derive(Clone, Copy)]
+// A format's numbers: the digits of a significand, the exponent of the largest values, the weight of the sign's bit, and the hexadecimal digits
+// of the bits.
+#[derive(Clone, Copy, Debug)]
 pub(crate) struct Sizes {
     pub precision: u64,
     pub emax: u64,
+    pub sign: u64,
+    pub hex_digits: usize,
+}
+
+impl Format {
+    // The format's numbers.
+    pub(crate) fn sizes(self) -> Sizes
+        ensures { SizesOf self result }
+    {
+        match self {
+            Format::Binary32 => Sizes {
+                precision: 24,
+                emax: 127,
+                sign: 0x8000_0000,
+                hex_digits: 8,
+            },
+            Format::Binary64 => Sizes {
+                precision: 53,
+                emax: 1023,
+                sign: 0x8000_0000_0000_0000,
+                hex_digits: 16,
+            },
+        }
+    }
 }
 
 // A quotient's first 63 binary digits: `whole` and `rest` / divisor, after `steps` doublings of the dividend.
-#[derive(Clone, Copy)]
+#[derive(Clone, Copy, Debug)]
 pub(crate) struct Quotient {
     pub whole: u64,
     pub rest: u64,
     pub steps: u64,
-}
-
-// A float's exponent field and significand digits, as Binary64 has them.
-#[derive(Clone, Copy)]
-pub(crate) struct Scaled {
-    pub field: u64,
-    pub digits: u64,
-}
-
-// A float's size as a whole number and a fraction, cut to 60 binary digits.
-#[derive(Clone, Copy)]
-pub(crate) struct Fixed {
-    pub whole: u64,
-    pub fraction: u64,
 }

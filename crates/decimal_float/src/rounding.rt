@@ -1,45 +1,17 @@
 // The nearest float to a fraction of two numbers, by long division, one binary digit a turn.
 ghost use Rattle.std.specs.Prelude.{◌≡◌, cond, ◌*◌, ◌^◌, ◌<◌, ◌≤◌};
-ghost use Rattle.std.specs.Float.Ieee.{emax, to_bits, round};
+ghost use Rattle.std.specs.Float.Ieee.{to_bits, round};
 ghost use Rattle.decimal_float.specs.Floats.{ieee, sign_weight};
-ghost use Rattle.decimal_float.specs.Division.{SizesOf, Divided, Rounded};
+ghost use Rattle.decimal_float.specs.Division.{Divided, Rounded};
 
-use crate::{Format, Quotient, Sizes};
-
-// A format's numbers.
-pub(crate) fn sizes(f: Format) -> Sizes
-    ensures { SizesOf f result }
-{
-    match f {
-        Format::Binary32 => Sizes {
-            precision: 24,
-            emax: 127,
-        },
-        Format::Binary64 => Sizes {
-            precision: 53,
-            emax: 1023,
-        },
-    }
-}
-
-// The weight of a format's sign bit.
-pub(crate) fn sign_bit(f: Format) -> u64
-    ensures { result ≡ sign_weight f }
-{
-    match f {
-        Format::Binary32 => 0x8000_0000,
-        Format::Binary64 => 0x8000_0000_0000_0000,
-    }
-}
+use crate::{Format, Quotient};
+use std::cmp::Ordering;
 
 // The sign's bit, where the float is negative.
 fn sign_of(f: Format, negative: bool) -> u64
     ensures { result ≡ cond negative (sign_weight f) 0 }
 {
-    if negative {
-        return sign_bit(f);
-    }
-    0
+    if negative { f.sizes().sign } else { 0 }
 }
 
 // The first 63 binary digits of m / d, and the rest.
@@ -47,17 +19,18 @@ fn divided(m: u64, d: u64) -> Quotient
     requires { (0 < m) × (m < 10 ^ 15) × (0 < d) × (d ≤ 10 ^ 15) }
     ensures { Divided m d result }
 {
+    // The doublings are counted for the answer; what ends the loop is `whole`.
     let mut whole = m / d;
     let mut rest = m % d;
     let mut steps: u64 = 0;
-    while whole < 0x4000_0000_0000_0000 && steps < 113 {
+    while whole < 0x4000_0000_0000_0000 {
         whole = 2 * whole;
         rest = 2 * rest;
         if d <= rest {
-            rest = rest - d;
-            whole = whole + 1;
+            rest -= d;
+            whole += 1;
         }
-        steps = steps + 1;
+        steps += 1;
     }
     Quotient { whole, rest, steps }
 }
@@ -69,17 +42,12 @@ fn rounded(q: Quotient, drop: u64) -> u64
 {
     let kept = q.whole >> drop;
     let cut = q.whole % (1u64 << drop);
-    let half = 1u64 << (drop - 1);
-    if cut < half {
-        return kept;
+    match cut.cmp(&(1u64 << (drop - 1))) {
+        Ordering::Less => kept,
+        Ordering::Greater => kept + 1,
+        Ordering::Equal if q.rest != 0 => kept + 1,
+        Ordering::Equal => kept + kept % 2,
     }
-    if half < cut {
-        return kept + 1;
-    }
-    if q.rest != 0 {
-        return kept + 1;
-    }
-    kept + kept % 2
 }
 
 // The bits of the nearest float to m / d, ties to even.
@@ -91,7 +59,7 @@ pub(crate) fn nearest(m: u64, d: u64, f: Format, negative: bool) -> u64
     if m == 0 {
         return sign;
     }
-    let s = sizes(f);
+    let s = f.sizes();
     let q = divided(m, d);
     let exponent = s.emax + 61 - q.steps;
     sign + ((exponent << (s.precision - 1)) + rounded(q, 63 - s.precision))
