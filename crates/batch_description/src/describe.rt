@@ -89,6 +89,6 @@ pub fn describe(h: BuilderHead, columns: [BuilderColumn; 128], names: &[u8]) -> 
     ensures { result ≡ described_by h columns names.now }
 {
     let sizes = sizes_of(columns, h.count);
-    let order = order_of(names, &sizes, h.count);
+    let order = order_of(names, &sizes[..h.count]);
     fill(h, columns, order)
 }

@@ -13,7 +13,9 @@ fn goes_by(names: &[u8], k: usize, c: BuilderColumn, name: &[u8]) -> bool
     requires { (k < 128) × (32 * k + c.size ≤ length names.now) }
     ensures { result ≡ goes_by names.now k c name.now }
 {
-    same_name(names, 32 * k, c.size as usize, name)
+    let start = 32 * k;
+    let end = start + c.size as usize;
+    same_name(name, &names[start..end])
 }
 
 // No column has the name.

@@ -1,24 +1,18 @@
 // Names: 32 bytes to a column, compared by bytes.
-ghost use Rattle.std.specs.Prelude.{◌≡◌, ◌+◌, ◌≤◌, length, take, drop};
+ghost use Rattle.std.specs.Prelude.{◌≡◌, ◌+◌, ◌≤◌, length};
 ghost use Rattle.std.proofs.Math.Seq.{paste};
 ghost use Rattle.union_names.specs.Names.{same_name};
 
-// Whether the name is that of `size` bytes from `at` on. Names often begin alike, so the last byte is compared first.
-pub fn same_name(names: &[u8], at: usize, size: usize, name: &[u8]) -> bool
-    requires { at + size ≤ length names.now }
-    ensures { result ≡ same_name name.now (take size (drop at names.now)) }
+// Whether two names are the same. Names often begin alike, so the last byte is compared first.
+#[tactic(auto, using(crate::proofs::Same::same_lasts))]
+pub fn same_name(x: &[u8], y: &[u8]) -> bool
+    ensures { result ≡ same_name x.now y.now }
 {
-    if size != name.len() {
-        return false;
+    match (x.split_last(), y.split_last()) {
+        (Some((a, front)), Some((b, other))) => a == b && front == other,
+        (None, None) => true,
+        _ => false,
     }
-    let mut i = size;
-    while 0 < i {
-        i -= 1;
-        if names[at + i] != name[i] {
-            return false;
-        }
-    }
-    true
 }
 
 // Writes a name's bytes, from `at` on.
@@ -26,7 +20,5 @@ pub fn put_name(names: &mut [u8], at: usize, name: &[u8])
     requires { at + length name.now ≤ length names.old }
     ensures { names.new ≡ paste names.old at name.now (length name.now) }
 {
-    for i in 0..name.len() {
-        names[at + i] = name[i];
-    }
+    names[at..at + name.len()].copy_from_slice(name);
 }
