@@ -1,3 +1,2 @@
 pub mod KindNameLaws
-pub mod PrintLaws
 pub mod ValueLaws

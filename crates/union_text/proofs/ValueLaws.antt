@@ -32,9 +32,6 @@ module _ (k : Kind) (values seen : Values) (x low : ℕ) (of : values ≡ values
   pub value_room : low < room seen
   value_room = rw (cut, sym is, of) (low_room k x)
 
-  pub told_seen : (was now : List ℕ) (size : ℕ) → Told seen low was now size → Told (values_of k) (low_bits (width_of k) x) was now size
-  told_seen was now size t = rw (sym of, is, sym cut) t
-
 -- a value's text has at most 37 bytes
 pub told_size : (v : Values) (bits : ℕ) (was now : List ℕ) (size : ℕ) → Told v bits was now size → size ≤ 37
 told_size (Integers lowest highest) bits was now size e = omega (arith, integer_size bits highest was now size e)

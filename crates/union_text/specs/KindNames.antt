@@ -1,12 +1,10 @@
 -- The names of the kinds, in ASCII, and the kind of a name.
-use Rattle.std.specs.Prelude.{cond, List, [], ◌∷◌, ◌++◌, ℕ, ◌-◌, length, replicate}
+use Rattle.std.specs.Prelude.{List, [], ◌∷◌, ℕ, Option, find}
 use Rattle.bitmap.specs.Lists.{table}
 use Rattle.array_columns.specs.declared.Kind.{Kind}
 use Rattle.array_columns.specs.declared.Kind.TheVariants.{Int8, Int16, Int32, Int64, UInt8, UInt16, UInt32, UInt64, Float32, Float64}
 use Rattle.array_columns.specs.Numbers.{kind_from}
 use Rattle.union_names.specs.Names.{same_name}
-use Rattle.union_text.specs.declared.KindNamed.{KindNamed}
-use Rattle.union_text.specs.declared.KindNamed.TheVariants.{Of, Unknown}
 
 -- "Int", "UInt" and "Float", before some digits
 abbrev pub int : List ℕ → List ℕ
@@ -31,15 +29,6 @@ kind_name UInt64 = uint (54 ∷ (52 ∷ []))
 kind_name Float32 = float (51 ∷ (50 ∷ []))
 kind_name Float64 = float (54 ∷ (52 ∷ []))
 
--- a name with spaces (32) after it, 7 bytes in all
-abbrev pub spaced : List ℕ → List ℕ
-spaced name = name ++ replicate (7 - length name) 32
-
--- the first of some kinds that has the text as its name
-abbrev pub first_named : List ℕ → List Kind → KindNamed
-first_named text [] = Unknown
-first_named text (k ∷ ks) = cond (same_name text (kind_name k)) (Of k) (first_named text ks)
-
--- the kind that a text names, of the ten
-unfoldable pub kind_named : List ℕ → KindNamed
-kind_named text = first_named text (table 10 kind_from)
+-- the kind that a text names: the first of the ten that has it as its name
+unfoldable pub kind_named : List ℕ → Option Kind
+kind_named text = find (λ k. same_name text (kind_name k)) (table 10 kind_from)

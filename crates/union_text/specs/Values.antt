@@ -1,7 +1,5 @@
 -- Values as text: integers in full, floats as a decimal that reads back.
-use Rattle.std.specs.Prelude.{◌≡◌, cond, List, ℕ, ◌-◌, ◌/◌, ◌^◌, ◌≤◌, take}
-use Rattle.decimal.specs.declared.Bits.{Bits}
-use Rattle.decimal.specs.declared.Bits.TheVariants.{Of}
+use Rattle.std.specs.Prelude.{◌≡◌, cond, List, ℕ, ◌-◌, ◌/◌, ◌^◌, ◌≤◌, take, Option, Some}
 use Rattle.decimal.specs.Integers.{integer_of, is_hex, hex_of}
 use Rattle.decimal.specs.Text.{integer_text, Output, output}
 use Rattle.decimal_float.specs.declared.Format.TheVariants.{Binary32, Binary64}
@@ -26,15 +24,15 @@ values_of Float32 = Floats Binary32
 values_of Float64 = Floats Binary64
 
 -- the bits of the value that a decimal tells
-abbrev pub decimal_of : Values → List ℕ → Bits
+abbrev pub decimal_of : Values → List ℕ → Option ℕ
 decimal_of (Integers lowest highest) text = integer_of text lowest highest
 decimal_of (Floats f) text = float_of f text
 
 -- the bits of the value that a text tells: a decimal, or 0x and a hexadecimal digit for each 4 bits
-unfoldable pub bits_of : Kind → List ℕ → Bits
+unfoldable pub bits_of : Kind → List ℕ → Option ℕ
 bits_of k text = cond (is_hex text) (hex_of text (width_of k / 4)) (decimal_of (values_of k) text)
 
 -- what a writer of a value leaves and answers: an integer in full and the bytes after it kept, or for a float a text that reads back to its bits
 abbrev pub Told : Values → ℕ → List ℕ → List ℕ → ℕ → Type 0
 Told (Integers lowest highest) bits was now size = ◌≡◌ {A = Output} (record { size = size; bytes = now }) (output (integer_text bits highest) was)
-Told (Floats f) bits was now size = (size ≤ 37) × (float_of f (take size now) ≡ Of bits)
+Told (Floats f) bits was now size = (size ≤ 37) × (float_of f (take size now) ≡ Some bits)

@@ -1,6 +1,6 @@
 // Names as they are printed: control bytes as question marks.
-ghost use Rattle.std.specs.Prelude.{◌≡◌, map, ◌+◌, ◌≤◌, length};
-ghost use Rattle.decimal.specs.Written.{put_at};
+ghost use Rattle.std.specs.Prelude.{◌≡◌, map, ◌≤◌, length};
+ghost use Rattle.decimal.specs.Text.{output};
 ghost use Rattle.union_text.specs.Printable.{printed};
 
 // A byte of a name as it is printed.
@@ -8,23 +8,19 @@ ghost use Rattle.union_text.specs.Printable.{printed};
 pub fn printable(b: u8) -> u8
     ensures { result ≡ printed b }
 {
-    if b < 32 {
-        return b'?';
-    }
-    if b == 127 {
-        return b'?';
-    }
-    b
+    if b.is_ascii_control() { b'?' } else { b }
 }
 
-// Puts a name in from place `at` on, as it is printed; answers its length.
-pub fn put_printable(name: &[u8], at: usize, out: &mut [u8]) -> usize
-    requires { at + length name.now ≤ length out.old }
+// Puts a name at the start of `out`, as it is printed, and keeps the bytes after it; answers its length.
+pub fn put_printable(name: &[u8], out: &mut [u8]) -> usize
+    requires { length name.now ≤ length out.old }
     ensures value { result ≡ length name.now }
-    ensures out_after { out.new ≡ put_at at (map printed name.now) out.old }
+    ensures text { record { size = result; bytes = out.new } ≡ output (map printed name.now) out.old }
 {
-    for i in 0..name.len() {
-        out[at + i] = printable(name[i]);
+    let part = &mut out[..name.len()];
+    part.copy_from_slice(name);
+    for b in part.iter_mut() {
+        *b = printable(*b);
     }
     name.len()
 }
