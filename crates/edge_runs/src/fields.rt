@@ -1,66 +1,44 @@
 // An array's fields in list order: each one's id and name, and what `child` answers to the id.
 use crate::print;
 use array_columns::Column;
+use array_columns::kinds::kind_number;
+use array_columns::questions::{entry_of, no_column};
+use program_kit::lent::number_of;
 use program_kit::output::Writer;
-use program_kit::{output, parts};
+use program_kit::parts;
+use program_kit::view::View;
 use std::io;
-use union_array::{Child, NamePlace, UnionArray};
+use std::io::Write;
+use union_array::NamePlace;
 
 // What `child` answers: its id and kind, and where its name, values and mask are.
-fn told(to: &mut Writer, r: Child) -> io::Result<()> {
-    let c = r.column;
-    let kind = c.kind;
-    print::told(to, b"; child", r.refusal, c.id, kind)?;
-    print::count(to, b", name at", c.name)?;
-    output::size(to, c.size as usize)?;
-    print::count(to, b", values at", c.values)?;
-    output::number(to, c.slots as u64)?;
+fn child(to: &mut Writer, view: &View, id: i8) -> io::Result<()> {
+    let answer = view.child(id);
+    let c = answer.unwrap_or(no_column());
+    let kind = kind_number(c.kind);
+    write!(to, "; child {}", number_of(answer))?;
+    write!(to, ", id {}, kind {kind}", entry_of(c.id))?;
+    write!(to, ", name at {} {}", c.name, c.size)?;
+    write!(to, ", values at {} {}", c.values, c.slots)?;
     if c.masked {
-        print::count(to, b", mask at", c.mask)?;
-        output::size(to, c.bit as usize)?;
+        write!(to, ", mask at {} {}", c.mask, c.bit)?;
     }
-    output::end(to)
+    writeln!(to)
 }
 
 // A field: its id and name, and its child.
-fn field(
-    to: &mut Writer,
-    a: UnionArray,
-    c: Column,
-    place: NamePlace,
-    ids: &[i8],
-    offsets: &[i32],
-    values: &[u64],
-    masks: &[u64],
-    names: &[u8],
-) -> io::Result<()> {
-    let id = c.id;
-    let size = place.size as usize;
-    output::text(to, b"  field: id")?;
-    output::id(to, id)?;
-    print::count(to, b", name", size)?;
-    print::bytes(to, parts::bytes(names, place.start, size))?;
-    told(to, a.child(id, ids, offsets, values, masks, names))
+fn field(to: &mut Writer, view: &View, id: i8, name: NamePlace) -> io::Result<()> {
+    let bytes = parts::part(view.lent.names, name.start, name.size as usize).unwrap_or(&[]);
+    write!(to, "  field: id {}, name {} ", entry_of(id), name.size)?;
+    print::hex(to, bytes)?;
+    child(to, view, id)
 }
 
-// A line for each field.
-pub fn lines(
-    to: &mut Writer,
-    a: UnionArray,
-    ids: &[i8],
-    offsets: &[i32],
-    values: &[u64],
-    masks: &[u64],
-    names: &[u8],
-) -> io::Result<()> {
-    let t = a.type_names(ids, offsets, values, masks, names);
-    let columns = a.columns;
-    let places = t.names;
-    for k in 0..128usize {
-        if k < t.count {
-            let c = columns[k];
-            let place = places[k];
-            field(to, a, c, place, ids, offsets, values, masks, names)?;
+// A line for each field; none if `type_names` is refused.
+pub fn lines(to: &mut Writer, view: &View) -> io::Result<()> {
+    if let Ok(t) = view.type_names() {
+        for (c, name) in view.array.columns.iter().zip(&t.names).take(t.count) {
+            field(to, view, c.id, *name)?;
         }
     }
     Ok(())

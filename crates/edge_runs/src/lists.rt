@@ -1,179 +1,150 @@
-// The lists of appends, by number. In a round, list 63, 64 or 65, of as many slots, entry i is in column a or b in turn and every third is
-// missing. Lists 1 to 4, 7 and 8 are pairs: a name of one byte, and its kind's number or - for a null of kind Int8. List 5 has the ten
-// kinds, list 6 the names.
-ghost use Rattle.std.specs.Prelude.{◌<◌, length};
-
-use crate::names;
-use crate::names::Name;
+// The lists of appends.
+use crate::names::NAMES;
 use array_columns::{Kind, kinds};
+use std::alloc::{AllocError, Global};
+use std::fmt;
 
-// What an append is given: the name, and a value of a kind, or a null.
+// What an append is given: a name, and a value's bits of a kind, or a null.
 #[derive(Clone, Copy)]
 pub struct Entry {
-    pub name: Name,
-    pub bits: u64,
+    pub name: &'static [u8],
     pub kind: Kind,
-    pub missing: bool,
+    pub value: Option<u64>,
 }
 
-// The slots and columns of a list's builder.
-#[derive(Clone, Copy)]
-pub struct Sizes {
-    pub slots: usize,
-    pub columns: usize,
+fn given(name: &'static [u8], kind: Kind, value: Option<u64>) -> Entry {
+    Entry { name, kind, value }
 }
 
-pub fn sizes_of(list: usize) -> Sizes {
-    match list {
-        1 | 7 | 8 => of(2, 1),
-        2 => of(3, 3),
-        3 => of(5, 3),
-        4 => of(3, 2),
-        5 => of(20, 10),
-        6 => of(16, 12),
-        _ => of(list, 3),
-    }
+#[derive(Clone, Copy, PartialEq, Eq)]
+pub enum List {
+    // In columns a and b in turn, one more than the builder has slots; every third is missing.
+    Round(u8),
+    OneColumn,
+    BThenA,
+    OtherKind,
+    TwoColumns,
+    TenKinds,
+    Names,
+    SlotNotLent,
+    NoColumn,
 }
 
-fn of(slots: usize, columns: usize) -> Sizes {
-    Sizes {
-        slots: slots,
-        columns: columns,
-    }
-}
+// Every list, in the order in which they are played.
+pub const LISTS: [List; 11] = [
+    List::Round(63),
+    List::Round(64),
+    List::Round(65),
+    List::OneColumn,
+    List::BThenA,
+    List::OtherKind,
+    List::TwoColumns,
+    List::TenKinds,
+    List::Names,
+    List::SlotNotLent,
+    List::NoColumn,
+];
 
-// A round has one entry more than slots.
-pub fn entries_of(list: usize) -> usize {
-    match list {
-        1 | 2 | 7 | 8 => 2,
-        3 => 5,
-        4 => 9,
-        5 => 20,
-        6 => 31,
-        63 => 64,
-        64 => 65,
-        _ => 66,
-    }
-}
+// The ten kinds: a name, the kind, and a value's bits, as wide as the kind with its highest bit set; of a float, a NaN that signals.
+const TEN_KINDS: [(&[u8], Kind, u64); 10] = [
+    (b"0", Kind::Int8, 0xa5),
+    (b"1", Kind::Int16, 0xa5c3),
+    (b"2", Kind::Int32, 0xa5c3_9617),
+    (b"3", Kind::Int64, 0xa5c3_9617_7e81_4b2d),
+    (b"4", Kind::UInt8, 0xb6),
+    (b"5", Kind::UInt16, 0xb6d4),
+    (b"6", Kind::UInt32, 0xb6d4_9728),
+    (b"7", Kind::UInt64, 0xb6d4_9728_6f81_5c3e),
+    (b"8", Kind::Float32, 0xffa5_c396),
+    (b"9", Kind::Float64, 0xfff5_c396_177e_814b),
+];
 
-pub fn is_round(list: usize) -> bool {
-    62 < list
-}
-
-// The name of one byte.
-fn letter(c: u8) -> Name {
-    let mut bytes = [0u8; 33];
-    bytes[0] = c;
-    Name {
-        bytes: bytes,
-        size: 1,
+impl fmt::Display for List {
+    fn fmt<W: fmt::Write>(&self, f: &mut fmt::Formatter<W>) -> fmt::Result {
+        match self {
+            List::Round(n) => write!(f, "{n} slots"),
+            List::OneColumn => f.write_str("one column"),
+            List::BThenA => f.write_str("b then a"),
+            List::OtherKind => f.write_str("A, B, A of another kind, C, A"),
+            List::TwoColumns => f.write_str("3 slots and 2 columns"),
+            List::TenKinds => f.write_str("the ten kinds"),
+            List::Names => f.write_str("names"),
+            List::SlotNotLent => f.write_str("one slot more than is lent"),
+            List::NoColumn => f.write_str("no column"),
+        }
     }
 }
 
 // Entry i of a round.
-pub fn turn(i: usize) -> Entry {
-    let bits = (i % 1000) as u64 * 1000 + 7;
-    let missing = i % 3 == 2;
-    if i % 2 == 0 {
-        return Entry {
-            name: letter(b'a'),
-            bits: bits,
-            kind: Kind::Int32,
-            missing: missing,
-        };
-    }
-    Entry {
-        name: letter(b'b'),
-        bits: bits,
-        kind: Kind::UInt16,
-        missing: missing,
+fn turn(i: u8) -> Entry {
+    let value = (i % 3 != 2).then_some(1000 * u64::from(i) + 7);
+    match i % 2 {
+        0 => given(b"a", Kind::Int32, value),
+        _ => given(b"b", Kind::UInt16, value),
     }
 }
 
-// The kind of a pair's mark.
-fn marked(mark: u8) -> Kind {
-    if mark < b'0' {
-        return Kind::Int8;
+// Pairs, each of a name of one byte and its kind's number, or - for a null of kind Int8. The values are 1, 2, ..
+fn pairs(alloc: Global, text: &'static [u8]) -> Result<Vec<Entry>, AllocError> {
+    let (pairs, _) = text.as_chunks::<2>();
+    let mut entries = Vec::new(alloc);
+    for (pair, bits) in pairs.iter().zip(1..) {
+        let name = &pair[..1];
+        let mark = pair[1];
+        entries.push(match mark {
+            b'0'..=b'9' => given(name, kinds::kind_from(mark - b'0'), Some(bits)),
+            _ => given(name, Kind::Int8, None),
+        })?;
     }
-    kinds::kind_from(mark - b'0')
+    Ok(entries)
 }
 
-// Pair i; a pair that is not there is the first.
-fn pair(pairs: &[u8], i: usize) -> Entry
-    requires { 1 < length pairs.now }
-{
-    let at = 2 * place(i, pairs.len() / 2);
-    let c = pairs[at];
-    let mark = pairs[at + 1];
-    Entry {
-        name: letter(c),
-        bits: (i % 1000) as u64 + 1,
-        kind: marked(mark),
-        missing: mark == b'-',
+// Of each kind, a value with all bits set, and the one of the table.
+fn ten_kinds(alloc: Global) -> Result<Vec<Entry>, AllocError> {
+    let mut entries = Vec::new(alloc);
+    for (name, kind, bits) in TEN_KINDS {
+        entries.push(given(name, kind, Some(u64::MAX)))?;
+        entries.push(given(name, kind, Some(bits)))?;
     }
+    Ok(entries)
 }
 
-// The number itself, or 0 if it is not below n.
-fn place(i: usize, n: usize) -> usize
-    requires { 0 < n }
-    ensures { result < n }
-{
-    if i < n {
-        return i;
-    }
-    0
+// A value of each name: 1, 2, ..
+fn named(alloc: Global) -> Result<Vec<Entry>, AllocError> {
+    NAMES
+        .iter()
+        .zip(1..)
+        .map(|(name, bits)| given(*name, Kind::UInt8, Some(bits)))
+        .collect(alloc)
 }
 
-// A value's bits, as wide as the kind with its highest bit set; of a float, a NaN that signals.
-fn pattern(n: u8) -> u64 {
-    match n {
-        0 => 0xa5,
-        1 => 0xa5c3,
-        2 => 0xa5c3_9617,
-        3 => 0xa5c3_9617_7e81_4b2d,
-        4 => 0xb6,
-        5 => 0xb6d4,
-        6 => 0xb6d4_9728,
-        7 => 0xb6d4_9728_6f81_5c3e,
-        8 => 0xffa5_c396,
-        _ => 0xfff5_c396_177e_814b,
+impl List {
+    pub fn is_round(self) -> bool {
+        matches!(self, List::Round(_))
     }
-}
 
-// Entry i of list 5: of each kind, all bits and then its pattern.
-fn of_kind(i: usize) -> Entry {
-    let n = (i / 2 % 10) as u8;
-    let bits = if i % 2 == 0 {
-        0xffff_ffff_ffff_ffff
-    } else {
-        pattern(n)
-    };
-    Entry {
-        name: letter(b'0' + n),
-        bits: bits,
-        kind: kinds::kind_from(n),
-        missing: false,
+    // The slots and the columns of its builder.
+    pub fn sizes(self) -> (usize, usize) {
+        match self {
+            List::Round(n) => (n as usize, 3),
+            List::OneColumn | List::SlotNotLent | List::NoColumn => (2, 1),
+            List::BThenA => (3, 3),
+            List::OtherKind => (5, 3),
+            List::TwoColumns => (3, 2),
+            List::TenKinds => (20, 10),
+            List::Names => (16, 12),
+        }
     }
-}
 
-// Entry i of list 6.
-fn named(i: usize) -> Entry {
-    Entry {
-        name: names::name_at(i),
-        bits: (i % 1000) as u64 + 1,
-        kind: Kind::UInt8,
-        missing: false,
-    }
-}
-
-pub fn entry_at(list: usize, i: usize) -> Entry {
-    match list {
-        1 | 7 | 8 => pair(b"A0A-", i),
-        2 => pair(b"b0a0", i),
-        3 => pair(b"A0B0A1C0A0", i),
-        4 => pair(b"a0b0c0a1a-a0c0a1\xff0", i),
-        5 => of_kind(i),
-        6 => named(i),
-        _ => turn(i),
+    pub fn entries(self, alloc: Global) -> Result<Vec<Entry>, AllocError> {
+        match self {
+            List::Round(n) => (0..=n).map(turn).collect(alloc),
+            List::OneColumn | List::SlotNotLent | List::NoColumn => pairs(alloc, b"A0A-"),
+            List::BThenA => pairs(alloc, b"b0a0"),
+            List::OtherKind => pairs(alloc, b"A0B0A1C0A0"),
+            List::TwoColumns => pairs(alloc, b"a0b0c0a1a-a0c0a1\xff0"),
+            List::TenKinds => ten_kinds(alloc),
+            List::Names => named(alloc),
+        }
     }
 }

@@ -1,110 +1,104 @@
 // Makings at the limits of slots and columns, and calls of a builder that are lent too little.
-use crate::{print, read};
-use program_kit::builders::make;
+use crate::print::layout_name;
+use crate::read;
+use array_columns::Layout;
+use program_kit::builders;
+use program_kit::lent::{Buffers, number_of};
 use program_kit::output::Writer;
-use program_kit::{output, parts};
 use std::io;
-use union_builder::{Made, UnionBuilder};
+use std::io::Write;
 
 // The slots and the columns of each making.
-const SLOTS: [usize; 10] = [0, 1, 1, 1, 1, 65536, 65537, 1024, 1024, 1024];
-
-const COLUMNS: [usize; 10] = [1, 0, 1, 128, 129, 1, 1, 0, 1, 2];
+const SIZES: [(usize, usize); 10] = [
+    (0, 1),
+    (1, 0),
+    (1, 1),
+    (1, 128),
+    (1, 129),
+    (65536, 1),
+    (65537, 1),
+    (1024, 0),
+    (1024, 1),
+    (1024, 2),
+];
 
 // A making's number, and the builder that it gives.
-fn told(to: &mut Writer, slots: usize, columns: usize, m: Made) -> io::Result<()> {
-    let b = m.builder;
-    print::count(to, b" making of", slots)?;
-    output::size(to, columns)?;
-    print::small(to, b":", m.refusal)?;
-    read::state(to, b)
+fn made(
+    to: &mut Writer,
+    layout: Layout,
+    slots: usize,
+    columns: usize,
+    lent: &Buffers,
+) -> io::Result<()> {
+    let answer = builders::make(layout, slots, columns, lent);
+    write!(to, " making of {slots} {columns}: {}", number_of(answer))?;
+    read::state(to, &answer.unwrap_or(builders::refused()))
 }
 
-// The numbers of a making of 64 slots and 2 columns, and of that builder's `finish_cloned` and `finish`.
-fn numbers(
-    to: &mut Writer,
-    dense: bool,
-    b: UnionBuilder,
-    ids: &[i8],
-    offsets: &[i32],
-    values: &[u64],
-    masks: &[u64],
-    names: &[u8],
-) -> io::Result<()> {
-    let m = make(dense, 64, 2, ids, offsets, values, masks, names);
-    print::small(to, b": making", m.refusal)?;
-    let c = b.finish_cloned(ids, offsets, values, masks, names);
-    print::small(to, b", finish_cloned", c.refusal)?;
-    let f = b.finish(ids, offsets, values, masks, names);
-    print::answer(to, b", finish", f.refusal)
+// The first n entries of a part of memory, one less where it is short.
+fn first<T>(list: &[T], n: usize, short: bool) -> &[T] {
+    list.get(..n.saturating_sub(usize::from(short)))
+        .unwrap_or(list)
 }
 
-// One element too few lent of type ids (0), offsets (1), values (2), masks (3) or names (4); of none (5).
-fn short(
-    to: &mut Writer,
-    dense: bool,
-    of: usize,
-    ids: &[i8],
-    offsets: &[i32],
-    values: &[u64],
-    masks: &[u64],
-    names: &[u8],
-) -> io::Result<()> {
-    let m = make(dense, 64, 2, ids, offsets, values, masks, names);
-    let i = parts::first_ids(ids, parts::lent(64, of == 0, 64));
-    let o = parts::first_offsets(offsets, parts::lent(64, of == 1, 64));
-    let v = parts::first_words(values, parts::lent(128, of == 2, 128));
-    let w = parts::first_words(masks, parts::lent(2, of == 3, 2));
-    let n = parts::first_bytes(names, parts::lent(64, of == 4, 64));
-    print::count(to, b" short of", of)?;
-    numbers(to, dense, m.builder, i, o, v, w, n)
+// The part of memory of which one element too few is lent, if it is one. It is printed by its number from 0.
+#[derive(Clone, Copy, PartialEq, Eq)]
+enum Short {
+    TypeIds,
+    Offsets,
+    Values,
+    Masks,
+    Names,
+    Nothing,
 }
 
-// Line i: the makings at the limits, then the calls that are lent too little.
-fn line(
-    to: &mut Writer,
-    dense: bool,
-    i: usize,
-    ids: &[i8],
-    offsets: &[i32],
-    values: &[u64],
-    masks: &[u64],
-    names: &[u8],
-) -> io::Result<()> {
-    if 10 <= i {
-        return short(to, dense, i - 10, ids, offsets, values, masks, names);
+const SHORTS: [Short; 6] = [
+    Short::TypeIds,
+    Short::Offsets,
+    Short::Values,
+    Short::Masks,
+    Short::Names,
+    Short::Nothing,
+];
+
+// What a builder of 64 slots and 2 columns needs, but for what it is short of.
+fn needed<'a>(lent: &Buffers<'a>, of: Short) -> Buffers<'a> {
+    Buffers {
+        type_ids: first(lent.type_ids, 64, of == Short::TypeIds),
+        offsets: first(lent.offsets, 64, of == Short::Offsets),
+        values: first(lent.values, 128, of == Short::Values),
+        masks: first(lent.masks, 2, of == Short::Masks),
+        names: first(lent.names, 64, of == Short::Names),
     }
-    let slots = SLOTS[i];
-    let columns = COLUMNS[i];
-    let m = make(dense, slots, columns, ids, offsets, values, masks, names);
-    told(to, slots, columns, m)
 }
 
-// Every line of a layout.
-fn each(
-    to: &mut Writer,
-    dense: bool,
-    ids: &[i8],
-    offsets: &[i32],
-    values: &[u64],
-    masks: &[u64],
-    names: &[u8],
-) -> io::Result<()> {
-    for i in 0..16usize {
-        line(to, dense, i, ids, offsets, values, masks, names)?;
-    }
-    Ok(())
+// The numbers of a making of 64 slots and 2 columns that is lent too little, and of such a builder's `finish_cloned` and `finish`.
+fn numbers(to: &mut Writer, layout: Layout, of: Short, lent: &Buffers) -> io::Result<()> {
+    let mut b = builders::make(layout, 64, 2, lent).unwrap_or(builders::refused());
+    let less = &needed(lent, of);
+    let made = builders::make(layout, 64, 2, less);
+    write!(to, " short of {}: making {}", of as u8, number_of(made))?;
+    let snapshot = builders::finish_cloned(&b, less);
+    write!(to, ", finish_cloned {}", number_of(snapshot))?;
+    let batch = builders::finish(&mut b, less);
+    writeln!(to, ", finish {}", number_of(batch))
 }
 
 // The lines of a layout, over memory for 1024 values in all.
-pub fn lines(to: &mut Writer, dense: bool) -> io::Result<()> {
-    let ids = [0i8; 1024];
-    let offsets = [0i32; 1024];
-    let values = [0u64; 1024];
-    let masks = [0u64; 128];
-    let names = [0u8; 4096];
-    output::layout(to, dense)?;
-    output::text(to, b", makings")?;
-    output::end(to)?;
-    each(to, dense, &ids, &offsets, &values, &masks, &names)
+pub fn lines(to: &mut Writer, layout: Layout) -> io::Result<()> {
+    let lent = &Buffers {
+        type_ids: &[0; 1024],
+        offsets: &[0; 1024],
+        values: &[0; 1024],
+        masks: &[0; 128],
+        names: &[0; 4096],
+    };
+    writeln!(to, "{}, makings", layout_name(layout))?;
+    for (slots, columns) in SIZES {
+        made(to, layout, slots, columns, lent)?;
+    }
+    for of in SHORTS {
+        numbers(to, layout, of, lent)?;
+    }
+    Ok(())
 }

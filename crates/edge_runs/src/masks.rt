@@ -1,81 +1,59 @@
 // The null mask at each setting, and by each named strategy.
 use crate::print;
-use program_kit::masks::nulls;
-use program_kit::output;
+use crate::print::yes;
+use logical_nulls::SparseStrategy;
+use null_strategy::Route;
+use program_kit::lent::{Refusal, number_of};
 use program_kit::output::Writer;
+use program_kit::view::{Nulls, View};
 use std::io;
-use union_array::UnionArray;
+use std::io::Write;
+
+// What stands for a null mask that is refused.
+const ABSENT: Nulls = Nulls {
+    null_count: None,
+    route: Route::Absent,
+};
 
 // A null mask on a line: number, present, null count, route, words.
-fn line(
-    to: &mut Writer,
-    a: UnionArray,
-    by_route: bool,
-    n: usize,
-    ids: &[i8],
-    offsets: &[i32],
-    values: &[u64],
-    masks: &[u64],
-    names: &[u8],
-) -> io::Result<()> {
-    let mut words = [0xffu64; 3];
-    let r = nulls(
-        a, by_route, n, ids, offsets, values, masks, names, &mut words,
-    );
-    let route = r.route;
-    print::small(to, b":", r.refusal)?;
-    print::flag(to, r.present)?;
-    output::size(to, r.nulls)?;
-    output::small(to, route.number())?;
-    output::words(to, &words, true)?;
-    output::end(to)
+fn line<F: FnOnce(&mut [u64]) -> Result<Nulls, Refusal>>(to: &mut Writer, mask: F) -> io::Result<()>
+    requires { F.IsAlwaysCallable mask }
+{
+    let mut words = [0xff; 3];
+    let answer = mask(&mut words);
+    let nulls = answer.unwrap_or(ABSENT);
+    write!(to, ": {}", number_of(answer))?;
+    write!(to, " {}", yes(nulls.null_count.is_some()))?;
+    write!(to, " {}", nulls.null_count.unwrap_or(0))?;
+    write!(to, " {}", nulls.route.number())?;
+    print::words(to, &words)?;
+    writeln!(to)
 }
 
 // The null mask at each setting, at a number that is none, and by each named strategy.
-pub fn lines(
-    to: &mut Writer,
-    a: UnionArray,
-    ids: &[i8],
-    offsets: &[i32],
-    values: &[u64],
-    masks: &[u64],
-    names: &[u8],
-) -> io::Result<()> {
-    output::text(to, b"  mask at 10")?;
-    line(to, a, false, 10, ids, offsets, values, masks, names)?;
-    output::text(to, b"  mask at 3")?;
-    line(to, a, false, 3, ids, offsets, values, masks, names)?;
-    output::text(to, b"  mask at 2")?;
-    line(to, a, false, 2, ids, offsets, values, masks, names)?;
-    output::text(to, b"  mask at 0")?;
-    line(to, a, false, 0, ids, offsets, values, masks, names)?;
-    output::text(to, b"  mask at 4")?;
-    line(to, a, false, 4, ids, offsets, values, masks, names)?;
-    output::text(to, b"  gather")?;
-    line(to, a, true, 3, ids, offsets, values, masks, names)?;
-    output::text(to, b"  skip one")?;
-    line(to, a, true, 4, ids, offsets, values, masks, names)?;
-    output::text(to, b"  skip without nulls")?;
-    line(to, a, true, 5, ids, offsets, values, masks, names)?;
-    output::text(to, b"  skip fully null")?;
-    line(to, a, true, 6, ids, offsets, values, masks, names)
+pub fn lines(to: &mut Writer, view: &View) -> io::Result<()> {
+    for setting in [10, 3, 2, 0, 4] {
+        write!(to, "  mask at {setting}")?;
+        line(to, |out| view.nulls_at(setting, out))?;
+    }
+    for (name, strategy) in [
+        ("gather", SparseStrategy::Gather),
+        ("skip one", SparseStrategy::SkipOne),
+        ("skip without nulls", SparseStrategy::SkipWithoutNulls),
+        ("skip fully null", SparseStrategy::SkipFullyNull),
+    ] {
+        write!(to, "  {name}")?;
+        line(to, |out| view.nulls_by(strategy, out))?;
+    }
+    Ok(())
 }
 
 // With no word lent: at a setting, at a number that is none, and by a strategy.
-pub fn no_words(
-    to: &mut Writer,
-    a: UnionArray,
-    ids: &[i8],
-    offsets: &[i32],
-    values: &[u64],
-    masks: &[u64],
-    names: &[u8],
-) -> io::Result<()> {
-    let mut words = [0u64; 0];
-    let r = nulls(a, false, 10, ids, offsets, values, masks, names, &mut words);
-    print::small(to, b"  no word lent: mask at 10:", r.refusal)?;
-    let r = nulls(a, false, 4, ids, offsets, values, masks, names, &mut words);
-    print::small(to, b", at 4:", r.refusal)?;
-    let r = nulls(a, true, 3, ids, offsets, values, masks, names, &mut words);
-    print::answer(to, b", gather:", r.refusal)
+pub fn no_words(to: &mut Writer, view: &View) -> io::Result<()> {
+    let at_10 = view.nulls_at(10, &mut []);
+    write!(to, "  no word lent: mask at 10: {}", number_of(at_10))?;
+    let at_4 = view.nulls_at(4, &mut []);
+    write!(to, ", at 4: {}", number_of(at_4))?;
+    let gather = view.nulls_by(SparseStrategy::Gather, &mut []);
+    writeln!(to, ", gather: {}", number_of(gather))
 }

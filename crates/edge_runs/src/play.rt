@@ -1,101 +1,76 @@
 // Builders that play a list.
-use crate::lists::Entry;
-use crate::{lend, lists, notes};
-use program_kit::builders::{append, make};
-use program_kit::parts;
-use union_array::{UnionArray, slices};
-use union_builder::{Appended, Finished, UnionBuilder};
+use crate::lists::{Entry, List};
+use crate::memory::Memory;
+use array_columns::{Kind, Layout};
+use program_kit::builders;
+use program_kit::lent::{Buffers, BuffersMut, Refusal};
+use std::alloc::{AllocError, Global};
+use union_array::UnionArray;
+use union_array::slices::no_array;
+use union_builder::UnionBuilder;
 
-// Appends an entry: a value with the builder handed in or lent, or a null.
-fn put(
-    b: UnionBuilder,
-    lent: bool,
-    e: Entry,
-    ids: &mut [i8],
-    offsets: &mut [i32],
-    values: &mut [u64],
-    masks: &mut [u64],
-    names: &mut [u8],
-) -> Appended {
-    let n = e.name;
-    let bytes = n.bytes;
-    let kind = e.kind;
-    let name = parts::first_bytes(&bytes, n.size);
-    if lent && !e.missing {
-        return lend::append_lent(b, name, kind, e.bits, ids, offsets, values, masks, names);
-    }
-    append(
-        b, name, kind, e.missing, e.bits, ids, offsets, values, masks, names,
-    )
+// What is noted of an append: its answer, and the builder's length after it.
+#[derive(Clone, Copy, PartialEq, Eq)]
+pub struct Note {
+    pub answer: Result<(), Refusal>,
+    pub len: usize,
 }
 
-// What the builder describes now, or what it described before.
-fn described(
-    before: UnionArray,
-    b: UnionBuilder,
-    now: bool,
-    ids: &[i8],
-    offsets: &[i32],
-    values: &[u64],
-    masks: &[u64],
-    names: &[u8],
-) -> UnionArray {
-    if now {
-        let f = b.finish_cloned(ids, offsets, values, masks, names);
-        return f.array;
-    }
-    before
+// What a list leaves: its builder, what it described half way, a note of each append, and the memory.
+#[derive(Drop)]
+pub struct Played {
+    pub builder: UnionBuilder,
+    pub half: UnionArray,
+    pub notes: Vec<Note>,
+    pub memory: Memory,
 }
 
-// The builder of a list. That of list 7 has one slot more than is lent, that of list 8 no column.
-fn made(
-    list: usize,
-    dense: bool,
-    ids: &[i8],
-    offsets: &[i32],
-    values: &[u64],
-    masks: &[u64],
-    names: &[u8],
-) -> UnionBuilder {
-    let s = lists::sizes_of(list);
-    let m = make(
-        dense, s.slots, s.columns, ids, offsets, values, masks, names,
-    );
-    let mut b = m.builder;
-    if list == 7 {
-        b.capacity = 67;
-    }
-    if list == 8 {
-        b.limit = 0;
+// The builder of a list, with one slot more than is lent, or no column, where the list wants that.
+fn builder_of(list: List, layout: Layout, lent: &Buffers) -> UnionBuilder {
+    let (slots, columns) = list.sizes();
+    let mut b = builders::make(layout, slots, columns, lent).unwrap_or(builders::refused());
+    match list {
+        List::SlotNotLent => b.capacity = 67,
+        List::NoColumn => b.limit = 0,
+        _ => {}
     }
     b
 }
 
-// The builder of a list after its entries, and what it described half way.
-pub fn play(
-    list: usize,
-    dense: bool,
-    lent: bool,
-    told: &mut [u64],
-    ids: &mut [i8],
-    offsets: &mut [i32],
-    values: &mut [u64],
-    masks: &mut [u64],
-    names: &mut [u8],
-) -> Finished {
-    let n = lists::entries_of(list);
-    let mut b = made(list, dense, ids, offsets, values, masks, names);
-    let mut half = slices::no_array();
-    for i in 0..n {
-        half = described(half, b, i == n / 2, ids, offsets, values, masks, names);
-        let e = lists::entry_at(list, i);
-        let r = put(b, lent, e, ids, offsets, values, masks, names);
-        b = r.builder;
-        notes::note(told, i, r);
+// Plays a list by a function that appends, over memory that holds ones at first.
+pub fn play<F>(
+    alloc: Global,
+    layout: Layout,
+    list: List,
+    entries: &[Entry],
+    append: F,
+) -> Result<Played, AllocError>
+where
+    F: Fn(&mut UnionBuilder, &[u8], Kind, Option<u64>, &mut BuffersMut) -> Result<(), Refusal>,
+    requires { F.IsAlwaysCallable append }
+{
+    let mut memory = Memory::ones();
+    let mut builder = builder_of(list, layout, &memory.lent());
+    let mut half = no_array();
+    let mut notes = Vec::new(alloc);
+    for (i, e) in entries.iter().enumerate() {
+        if i == entries.len() / 2 {
+            half = builders::finish_cloned(&builder, &memory.lent()).unwrap_or(half);
+        }
+        let answer = append(
+            &mut builder,
+            e.name,
+            e.kind,
+            e.value,
+            &mut memory.lent_mut(),
+        );
+        let len = builders::len(&builder);
+        notes.push(Note { answer, len })?;
     }
-    Finished {
-        builder: b,
-        array: half,
-        refusal: 0,
-    }
+    Ok(Played {
+        builder,
+        half,
+        notes,
+        memory,
+    })
 }

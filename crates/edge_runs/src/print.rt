@@ -1,49 +1,59 @@
-// Labels on standard output, and what they tell.
-use array_columns::Kind;
-use array_columns::kinds::kind_number;
+// Words and lists on standard output.
+use array_columns::Layout;
 use program_kit::output;
 use program_kit::output::Writer;
 use std::io;
+use std::io::Write;
 
-// Yes or no after a space.
-pub fn flag(to: &mut Writer, b: bool) -> io::Result<()> {
-    output::either(to, b, b" yes", b" no")
+pub fn yes(b: bool) -> &'static str {
+    if b { "yes" } else { "no" }
 }
 
-// A label, and whether it holds.
-pub fn holds(to: &mut Writer, label: &[u8], b: bool) -> io::Result<()> {
-    output::text(to, label)?;
-    flag(to, b)
+pub fn layout_name(layout: Layout) -> &'static str {
+    match layout {
+        Layout::Sparse => "sparse",
+        Layout::Dense => "dense",
+    }
 }
 
-// A label and a small number, as a refusal's.
-pub fn small(to: &mut Writer, label: &[u8], n: u8) -> io::Result<()> {
-    output::text(to, label)?;
-    output::small(to, n)
+// Each entry of a list, by what writes one.
+fn list<T: Copy, F: Fn(&mut Writer, T) -> io::Result<()>>(
+    to: &mut Writer,
+    list: &[T],
+    one: F,
+) -> io::Result<()>
+    requires { F.IsAlwaysCallable one }
+{
+    for x in list {
+        one(to, *x)?;
+    }
+    Ok(())
 }
 
-// A label and a number.
-pub fn count(to: &mut Writer, label: &[u8], n: usize) -> io::Result<()> {
-    output::text(to, label)?;
-    output::size(to, n)
+// Bytes, two hexadecimal digits each.
+pub fn hex(to: &mut Writer, bytes: &[u8]) -> io::Result<()> {
+    list(to, bytes, |to, b| write!(to, "{b:02x}"))
 }
 
-// Bytes after a space, two hexadecimal digits each.
-pub fn bytes(to: &mut Writer, s: &[u8]) -> io::Result<()> {
-    output::text(to, b" ")?;
-    output::bytes(to, s, true)
+// Words, each after a space, as 16 hexadecimal digits.
+pub fn words(to: &mut Writer, words: &[u64]) -> io::Result<()> {
+    list(to, words, output::word)
 }
 
-// What tells of a child or a value first: the call's number, the id and the kind.
-pub fn told(to: &mut Writer, call: &[u8], refusal: u8, id: i8, kind: Kind) -> io::Result<()> {
-    small(to, call, refusal)?;
-    output::text(to, b", id")?;
-    output::id(to, id)?;
-    small(to, b", kind", kind_number(kind))
+// Ids, each after a space, 255 for one below 0.
+pub fn ids(to: &mut Writer, ids: &[i8]) -> io::Result<()> {
+    list(to, ids, output::id)
 }
 
-// A call's number on a line.
-pub fn answer(to: &mut Writer, call: &[u8], refusal: u8) -> io::Result<()> {
-    small(to, call, refusal)?;
-    output::end(to)
+// An offset after a space, - for one below 0.
+fn offset(to: &mut Writer, n: i32) -> io::Result<()> {
+    if n < 0 {
+        write!(to, " -")
+    } else {
+        write!(to, " {n}")
+    }
+}
+
+pub fn offsets(to: &mut Writer, offsets: &[i32]) -> io::Result<()> {
+    list(to, offsets, offset)
 }

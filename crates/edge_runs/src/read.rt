@@ -1,72 +1,62 @@
 // What a builder finishes, read back: fields, slots, type ids.
+use crate::memory::Memory;
+use crate::play::Played;
+use crate::print::{layout_name, yes};
 use crate::{fields, print, shown, slots};
-use array_columns::questions::is_dense;
+use program_kit::builders;
+use program_kit::lent::{Refusal, number_of};
 use program_kit::output::Writer;
-use program_kit::{output, parts};
+use program_kit::view::View;
 use std::io;
+use std::io::Write;
+use union_array::slices::no_array;
 use union_builder::UnionBuilder;
 
 // A builder's layout, slots and columns, and those in use.
-pub fn state(to: &mut Writer, b: UnionBuilder) -> io::Result<()> {
-    let l = b.layout;
-    output::text(to, b", a ")?;
-    output::layout(to, is_dense(l))?;
-    output::text(to, b" builder")?;
-    output::size(to, b.capacity)?;
-    output::size(to, b.limit)?;
-    output::size(to, b.len)?;
-    output::size(to, b.count)?;
-    output::end(to)
+pub fn state(to: &mut Writer, b: &UnionBuilder) -> io::Result<()> {
+    let layout = layout_name(b.layout);
+    write!(to, ", a {layout} builder {} {}", b.capacity, b.limit)?;
+    writeln!(to, " {} {}", b.len, b.count)
 }
 
-// The first of each kind of memory.
-pub fn memory(
-    to: &mut Writer,
-    ids: &[i8],
-    offsets: &[i32],
-    values: &[u64],
-    masks: &[u64],
-    names: &[u8],
-) -> io::Result<()> {
-    output::text(to, b"  memory: type ids")?;
-    output::ids(to, parts::first_ids(ids, 6))?;
-    output::text(to, b", offsets")?;
-    output::offsets(to, parts::first_offsets(offsets, 6), b" -")?;
-    output::text(to, b", masks")?;
-    output::words(to, parts::first_words(masks, 3), true)?;
-    output::text(to, b"\n   values")?;
-    output::words(to, parts::first_words(values, 15), true)?;
-    output::text(to, b"\n   names")?;
-    print::bytes(to, parts::first_bytes(names, 96))?;
-    output::end(to)
+// The first of each part of memory.
+pub fn memory(to: &mut Writer, m: &Memory) -> io::Result<()> {
+    write!(to, "  memory: type ids")?;
+    print::ids(to, &m.type_ids[..6])?;
+    write!(to, ", offsets")?;
+    print::offsets(to, &m.offsets[..6])?;
+    write!(to, ", masks")?;
+    print::words(to, &m.masks[..3])?;
+    write!(to, "\n   values")?;
+    print::words(to, &m.values[..15])?;
+    write!(to, "\n   names ")?;
+    print::hex(to, &m.names[..96])?;
+    writeln!(to)
+}
+
+// What a call answers of the array.
+fn flag(to: &mut Writer, answer: Result<bool, Refusal>) -> io::Result<()> {
+    let holds = yes(answer.unwrap_or(false));
+    write!(to, " {} {holds}", number_of(answer))
 }
 
 // What `finish` answers: the builder after it, and the array.
-pub fn finished(
-    to: &mut Writer,
-    b: UnionBuilder,
-    ids: &[i8],
-    offsets: &[i32],
-    values: &[u64],
-    masks: &[u64],
-    names: &[u8],
-) -> io::Result<()> {
-    let l = b.len();
-    let f = b.finish(ids, offsets, values, masks, names);
-    let a = f.array;
-    let after = f.builder;
-    print::small(to, b" finish", f.refusal)?;
-    print::count(to, b", slots", a.count)?;
-    print::count(to, b", fields", a.fields)?;
-    state(to, after)?;
-    let d = a.is_dense(ids, offsets, values, masks, names);
-    print::small(to, b"  is_dense", d.refusal)?;
-    print::flag(to, d.holds)?;
-    let n = a.is_nullable(ids, offsets, values, masks, names);
-    print::small(to, b", is_nullable", n.refusal)?;
-    print::flag(to, n.holds)?;
-    output::end(to)?;
-    fields::lines(to, a, ids, offsets, values, masks, names)?;
-    slots::lines(to, a, l.len, ids, offsets, values, masks, names)?;
-    shown::lines(to, a, l.len, ids, offsets, values, masks, names)
+pub fn finished(to: &mut Writer, played: &Played) -> io::Result<()> {
+    let mut b = played.builder;
+    let lent = &played.memory.lent();
+    let n = builders::len(&b);
+    let answer = builders::finish(&mut b, lent);
+    let array = answer.unwrap_or(no_array());
+    write!(to, " finish {}", number_of(answer))?;
+    write!(to, ", slots {}, fields {}", array.count, array.fields)?;
+    state(to, &b)?;
+    let view = &View { array, lent };
+    write!(to, "  is_dense")?;
+    flag(to, view.is_dense())?;
+    write!(to, ", is_nullable")?;
+    flag(to, view.is_nullable())?;
+    writeln!(to)?;
+    fields::lines(to, view)?;
+    slots::lines(to, view, n)?;
+    shown::lines(to, view, n)
 }

@@ -1,60 +1,40 @@
 // What a round leaves, read back: every slot, every null mask, a slice, and a snapshot that was taken half way.
-use crate::{fields, masks as null_masks, print, tell};
-use program_kit::output;
+use crate::lists::Entry;
+use crate::play::Played;
+use crate::{fields, masks, tell};
+use program_kit::builders;
+use program_kit::lent::number_of;
 use program_kit::output::Writer;
+use program_kit::view::View;
 use std::io;
-use union_array::UnionArray;
-use union_builder::Finished;
+use std::io::Write;
+use union_array::slices::no_array;
 
-// The fields, how many slots tell entries `first` to `end` - 1, and every null mask.
-fn read_back(
-    to: &mut Writer,
-    a: UnionArray,
-    first: usize,
-    end: usize,
-    ids: &[i8],
-    offsets: &[i32],
-    values: &[u64],
-    masks: &[u64],
-    names: &[u8],
-) -> io::Result<()> {
-    fields::lines(to, a, ids, offsets, values, masks, names)?;
-    print::small(
+// The fields, how many slots tell their entries, and every null mask.
+fn read_back(to: &mut Writer, view: &View, entries: &[Entry]) -> io::Result<()> {
+    fields::lines(to, view)?;
+    write!(to, "  try_new {}", number_of(view.try_new()))?;
+    writeln!(
         to,
-        b"  try_new",
-        a.try_new(ids, offsets, values, masks, names),
+        ", slots that tell their entry {}",
+        tell::count(view, entries)
     )?;
-    let count = tell::count(a, first, end, ids, offsets, values, masks, names);
-    print::count(to, b", slots that tell their entry", count)?;
-    output::end(to)?;
-    null_masks::lines(to, a, ids, offsets, values, masks, names)
+    masks::lines(to, view)
 }
 
-// What a builder of n slots describes, its slice from slot 1 on, and what it described half way.
-pub fn lines(
-    to: &mut Writer,
-    p: Finished,
-    n: usize,
-    ids: &[i8],
-    offsets: &[i32],
-    values: &[u64],
-    masks: &[u64],
-    names: &[u8],
-) -> io::Result<()> {
-    if n < 1 {
-        return Ok(());
-    }
-    let b = p.builder;
-    let f = b.finish_cloned(ids, offsets, values, masks, names);
-    let a = f.array;
-    print::answer(to, b" finish_cloned:", f.refusal)?;
-    read_back(to, a, 0, n, ids, offsets, values, masks, names)?;
-    let s = a.slice(1, n - 1, ids, offsets, values, masks, names);
-    let part = s.array;
-    print::answer(to, b" slice from slot 1:", s.refusal)?;
-    read_back(to, part, 1, n, ids, offsets, values, masks, names)?;
-    let half = p.array;
-    print::count(to, b" snapshot at slot", half.count)?;
-    output::end(to)?;
-    read_back(to, half, 0, half.count, ids, offsets, values, masks, names)
+// What a builder describes, its slice from slot 1 on, and what it described half way.
+pub fn lines(to: &mut Writer, played: &Played, entries: &[Entry]) -> io::Result<()> {
+    let lent = &played.memory.lent();
+    let answer = builders::finish_cloned(&played.builder, lent);
+    writeln!(to, " finish_cloned: {}", number_of(answer))?;
+    let array = answer.unwrap_or(no_array());
+    let whole = &View { array, lent };
+    read_back(to, whole, entries)?;
+    let answer = whole.slice(1, array.count.saturating_sub(1));
+    writeln!(to, " slice from slot 1: {}", number_of(answer))?;
+    let array = answer.unwrap_or(no_array());
+    read_back(to, &View { array, lent }, entries.get(1..).unwrap_or(&[]))?;
+    let array = played.half;
+    writeln!(to, " snapshot at slot {}", array.count)?;
+    read_back(to, &View { array, lent }, entries)
 }

@@ -1,58 +1,48 @@
 // A list played by `append` and by `append_mut`, and what it leaves, read back.
-use crate::{again, lists, notes, play, read, refusals, rounds};
+use crate::lists::List;
+use crate::play::{Played, play};
+use crate::print::{layout_name, yes};
+use crate::{notes, read, refusals, rounds, same};
+use array_columns::Layout;
+use program_kit::builders;
 use program_kit::output::Writer;
+use std::alloc::Global;
 use std::io;
-use union_builder::Finished;
+use std::io::Write;
 
-// What a list notes and leaves. Of a list of a few slots and columns, the memory too.
-fn lines(
-    to: &mut Writer,
-    list: usize,
-    dense: bool,
-    p: Finished,
-    told: &[u64],
-    ids: &[i8],
-    offsets: &[i32],
-    values: &[u64],
-    masks: &[u64],
-    names: &[u8],
-) -> io::Result<()> {
-    let b = p.builder;
-    notes::lines(to, list, told)?;
-    again::compare(to, list, dense, b, told, ids, offsets, values, masks, names)?;
-    if lists::is_round(list) {
-        return rounds::lines(to, p, list, ids, offsets, values, masks, names);
-    }
-    if list < 5 {
-        read::memory(to, ids, offsets, values, masks, names)?;
-    }
-    read::finished(to, b, ids, offsets, values, masks, names)?;
-    if list == 1 || list == 3 {
-        refusals::lines(to, b, ids, offsets, values, masks, names)?;
-    }
-    Ok(())
+// Whether the builder, the notes and the memory are the same of a list played twice.
+fn compared(to: &mut Writer, a: &Played, b: &Played) -> io::Result<()> {
+    let m = &a.memory;
+    let n = &b.memory;
+    let same = same::builders(&a.builder, &b.builder);
+    write!(to, " by append_mut: builder {}", yes(same))?;
+    write!(to, ", numbers {}", yes(a.notes == b.notes))?;
+    write!(to, ", memory {}", yes(m.type_ids == n.type_ids))?;
+    write!(to, " {}", yes(m.offsets == n.offsets))?;
+    write!(to, " {}", yes(m.values == n.values))?;
+    write!(to, " {}", yes(m.masks == n.masks))?;
+    writeln!(to, " {}", yes(m.names == n.names))
 }
 
-// Plays a list over memory that holds ones at first.
-pub fn run(to: &mut Writer, list: usize, dense: bool) -> io::Result<()> {
-    let mut told = [0u64; 66];
-    let mut ids = [-1i8; 66];
-    let mut offsets = [-1i32; 66];
-    let mut values = [0xffff_ffff_ffff_ffffu64; 200];
-    let mut masks = [0xffff_ffff_ffff_ffffu64; 12];
-    let mut names = [255u8; 384];
-    let p = play::play(
-        list,
-        dense,
-        false,
-        &mut told,
-        &mut ids,
-        &mut offsets,
-        &mut values,
-        &mut masks,
-        &mut names,
-    );
-    lines(
-        to, list, dense, p, &told, &ids, &offsets, &values, &masks, &names,
-    )
+// The lines of a list. Of one of a few slots and columns, the memory too.
+pub fn lines(to: &mut Writer, alloc: Global, layout: Layout, list: List) -> io::Result<()> {
+    writeln!(to, "{}, {list}", layout_name(layout))?;
+    let entries = list.entries(alloc)?;
+    let played = play(alloc, layout, list, &entries, builders::append)?;
+    let again = play(alloc, layout, list, &entries, builders::append_lent)?;
+    notes::lines(to, list, &entries, &played.notes)?;
+    compared(to, &played, &again)?;
+    match list {
+        List::Round(_) => rounds::lines(to, &played, &entries),
+        List::OneColumn | List::OtherKind => {
+            read::memory(to, &played.memory)?;
+            read::finished(to, &played)?;
+            refusals::lines(to, &played)
+        }
+        List::BThenA | List::TwoColumns => {
+            read::memory(to, &played.memory)?;
+            read::finished(to, &played)
+        }
+        _ => read::finished(to, &played),
+    }
 }

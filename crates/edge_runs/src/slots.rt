@@ -1,58 +1,45 @@
 // An array's slots: what `type_id`, `value_offset` and `value` answer.
 use crate::print;
-use array_columns::Value;
-use program_kit::output;
+use array_columns::kinds::kind_number;
+use array_columns::questions::entry_of;
+use program_kit::lent::number_of;
 use program_kit::output::Writer;
+use program_kit::view::{View, no_value};
 use std::io;
-use union_array::UnionArray;
+use std::io::Write;
 
 // What `value` answers: its id and kind, the bits, or missing, and the name's length and its 32 bytes.
-fn told(to: &mut Writer, v: Value) -> io::Result<()> {
-    let kind = v.kind;
-    let name = v.name;
-    print::told(to, b", value", v.refusal, v.id, kind)?;
-    output::either(to, v.missing, b", missing,", b", bits")?;
-    output::word(to, v.bits)?;
-    print::small(to, b", name", v.size)?;
-    print::bytes(to, &name)?;
-    output::end(to)
+fn value(to: &mut Writer, view: &View, i: usize) -> io::Result<()> {
+    let answer = view.value(i);
+    let v = answer.unwrap_or(no_value());
+    let kind = kind_number(v.kind);
+    write!(to, ", value {}", number_of(answer))?;
+    write!(to, ", id {}, kind {kind}", entry_of(v.id))?;
+    match v.value {
+        Some(bits) => write!(to, ", bits {bits:016x}")?,
+        None => write!(to, ", missing, {:016x}", 0)?,
+    }
+    write!(to, ", name {} ", v.size)?;
+    print::hex(to, &v.name)?;
+    writeln!(to)
 }
 
 // A line for a slot.
-fn slot(
-    to: &mut Writer,
-    a: UnionArray,
-    i: usize,
-    ids: &[i8],
-    offsets: &[i32],
-    values: &[u64],
-    masks: &[u64],
-    names: &[u8],
-) -> io::Result<()> {
-    let t = a.type_id(i, ids, offsets, values, masks, names);
-    let o = a.value_offset(i, ids, offsets, values, masks, names);
-    print::count(to, b"  slot", i)?;
-    print::small(to, b": type_id", t.refusal)?;
-    output::text(to, b", id")?;
-    output::id(to, t.id)?;
-    print::small(to, b", value_offset", o.refusal)?;
-    output::size(to, o.offset)?;
-    told(to, a.value(i, ids, offsets, values, masks, names))
+fn slot(to: &mut Writer, view: &View, i: usize) -> io::Result<()> {
+    let id = view.type_id(i);
+    let offset = view.value_offset(i);
+    write!(to, "  slot {i}: type_id {}", number_of(id))?;
+    write!(to, ", id {}", entry_of(id.unwrap_or(0)))?;
+    write!(to, ", value_offset {}", number_of(offset))?;
+    write!(to, " {}", offset.unwrap_or(0))?;
+    value(to, view, i)
 }
 
 // Slots 0 to n, of which n is past the end.
-pub fn lines(
-    to: &mut Writer,
-    a: UnionArray,
-    n: usize,
-    ids: &[i8],
-    offsets: &[i32],
-    values: &[u64],
-    masks: &[u64],
-    names: &[u8],
-) -> io::Result<()> {
-    for i in 0..n {
-        slot(to, a, i, ids, offsets, values, masks, names)?;
+pub fn lines(to: &mut Writer, view: &View, n: usize) -> io::Result<()> {
+    // By slot number, which is what an array is asked.
+    for i in 0..=n {
+        slot(to, view, i)?;
     }
-    slot(to, a, n, ids, offsets, values, masks, names)
+    Ok(())
 }

@@ -1,71 +1,132 @@
-// Calls of a builder: the making by layout, the append of a value or a null, and the description of the batch.
-use array_columns::Kind;
-use union_builder::{Appended, Finished, Made, UnionBuilder};
+// Calls of a builder, each by the memory lent to it.
+ghost use Rattle.std.specs.Prelude.{◌≡◌};
+
+use crate::lent::{Buffers, BuffersMut, Refusal, unless};
+use array_columns::{Kind, Layout};
+use union_array::UnionArray;
+use union_builder::UnionBuilder;
 
 // A builder of a layout; one of 1024 slots is by `new_dense` or `new_sparse`.
 pub fn make(
-    dense: bool,
+    layout: Layout,
     slots: usize,
     columns: usize,
-    ids: &[i8],
-    offsets: &[i32],
-    values: &[u64],
-    masks: &[u64],
-    names: &[u8],
-) -> Made {
-    let standard = slots == 1024;
-    if dense && standard {
-        return UnionBuilder::new_dense(columns, ids, offsets, values, masks, names);
-    }
-    if dense {
-        return UnionBuilder::with_capacity_dense(
-            slots, columns, ids, offsets, values, masks, names,
-        );
-    }
-    if standard {
-        return UnionBuilder::new_sparse(columns, ids, offsets, values, masks, names);
-    }
-    UnionBuilder::with_capacity_sparse(slots, columns, ids, offsets, values, masks, names)
+    lent: &Buffers<'_>,
+) -> Result<UnionBuilder, Refusal> {
+    let Buffers {
+        type_ids,
+        offsets,
+        values,
+        masks,
+        names,
+    } = *lent;
+    let made = match (layout, slots) {
+        (Layout::Dense, 1024) => {
+            UnionBuilder::new_dense(columns, type_ids, offsets, values, masks, names)
+        }
+        (Layout::Dense, _) => UnionBuilder::with_capacity_dense(
+            slots, columns, type_ids, offsets, values, masks, names,
+        ),
+        (Layout::Sparse, 1024) => {
+            UnionBuilder::new_sparse(columns, type_ids, offsets, values, masks, names)
+        }
+        (Layout::Sparse, _) => UnionBuilder::with_capacity_sparse(
+            slots, columns, type_ids, offsets, values, masks, names,
+        ),
+    };
+    unless(made.refusal, made.builder)
 }
 
 // A builder whose making was refused, to which nothing is appended.
 pub fn refused() -> UnionBuilder {
-    let none: [u8; 0] = [];
-    let m = UnionBuilder::new_sparse(0, &[], &[], &[], &[], &none);
-    m.builder
+    UnionBuilder::new_sparse(0, &[], &[], &[], &[], &[]).builder
 }
 
-// Appends a null, or a value by its bits.
+// Appends a value's bits, or a null.
 pub fn append(
-    b: UnionBuilder,
+    b: &mut UnionBuilder,
     name: &[u8],
     kind: Kind,
-    null: bool,
-    bits: u64,
-    ids: &mut [i8],
-    offsets: &mut [i32],
-    values: &mut [u64],
-    masks: &mut [u64],
-    names: &mut [u8],
-) -> Appended {
-    if null {
-        return b.append_null(name, kind, ids, offsets, values, masks, names);
-    }
-    b.append(name, kind, bits, ids, offsets, values, masks, names)
+    value: Option<u64>,
+    lent: &mut BuffersMut<'_>,
+) -> Result<(), Refusal> {
+    let r = match value {
+        Some(bits) => b.append(
+            name,
+            kind,
+            bits,
+            lent.type_ids,
+            lent.offsets,
+            lent.values,
+            lent.masks,
+            lent.names,
+        ),
+        None => b.append_null(
+            name,
+            kind,
+            lent.type_ids,
+            lent.offsets,
+            lent.values,
+            lent.masks,
+            lent.names,
+        ),
+    };
+    *b = r.builder;
+    unless(r.refusal, ())
 }
 
-// What a builder describes: the batch so far, or the last one, which empties it.
-pub fn finish(
-    b: UnionBuilder,
-    last: bool,
-    ids: &[i8],
-    offsets: &[i32],
-    values: &[u64],
-    masks: &[u64],
-    names: &[u8],
-) -> Finished {
-    if last {
-        return b.finish(ids, offsets, values, masks, names);
-    }
-    b.finish_cloned(ids, offsets, values, masks, names)
+// The same with the builder lent, which the append of a null does not have.
+pub fn append_lent(
+    b: &mut UnionBuilder,
+    name: &[u8],
+    kind: Kind,
+    value: Option<u64>,
+    lent: &mut BuffersMut<'_>,
+) -> Result<(), Refusal> {
+    let Some(bits) = value else {
+        return append(b, name, kind, value, lent);
+    };
+    let refusal = b.append_mut(
+        name,
+        kind,
+        bits,
+        lent.type_ids,
+        lent.offsets,
+        lent.values,
+        lent.masks,
+        lent.names,
+    );
+    unless(refusal, ())
+}
+
+// How many slots there are.
+pub fn len(b: &UnionBuilder) -> usize
+    ensures { result ≡ b.now.len }
+{
+    b.len().len
+}
+
+// The batch so far.
+pub fn finish_cloned(b: &UnionBuilder, lent: &Buffers<'_>) -> Result<UnionArray, Refusal> {
+    let r = b.finish_cloned(
+        lent.type_ids,
+        lent.offsets,
+        lent.values,
+        lent.masks,
+        lent.names,
+    );
+    unless(r.refusal, r.array)
+}
+
+// The last batch, which empties the builder.
+pub fn finish(b: &mut UnionBuilder, lent: &Buffers<'_>) -> Result<UnionArray, Refusal> {
+    let r = b.finish(
+        lent.type_ids,
+        lent.offsets,
+        lent.values,
+        lent.masks,
+        lent.names,
+    );
+    *b = r.builder;
+    unless(r.refusal, r.array)
 }

@@ -1,80 +1,25 @@
 // Parts of lists.
-ghost use Rattle.std.specs.Prelude.{◌≤◌};
+ghost use Rattle.std.specs.Prelude.{◌≡◌, ◌+◌, ◌≤◌, ◌↔◌, IfSome, IsSome, length, take, drop};
 
-// The n bytes from a start on; none if they are not there.
-pub fn bytes(list: &[u8], start: usize, n: usize) -> &[u8] {
-    if list.len() < start {
-        return &list[0..0];
-    }
-    if list.len() - start < n {
-        return &list[0..0];
-    }
-    let end = start + n;
-    &list[start..end]
-}
-
-// The n words from a start on; none if they are not there.
-pub fn words(list: &[u64], start: usize, n: usize) -> &[u64] {
-    if list.len() < start {
-        return &list[0..0];
-    }
-    if list.len() - start < n {
-        return &list[0..0];
-    }
-    let end = start + n;
-    &list[start..end]
-}
-
-// The first n ids, or all if they are fewer.
-pub fn first_ids(list: &[i8], n: usize) -> &[i8] {
-    if list.len() < n {
-        return list;
-    }
-    &list[0..n]
-}
-
-// The first n offsets, or all if they are fewer.
-pub fn first_offsets(list: &[i32], n: usize) -> &[i32] {
-    if list.len() < n {
-        return list;
-    }
-    &list[0..n]
-}
-
-// The first n bytes, or all if they are fewer.
-pub fn first_bytes(list: &[u8], n: usize) -> &[u8] {
-    if list.len() < n {
-        return list;
-    }
-    &list[0..n]
-}
-
-// The first n words, or all if they are fewer.
-pub fn first_words(list: &[u64], n: usize) -> &[u64] {
-    if list.len() < n {
-        return list;
-    }
-    &list[0..n]
-}
-
-// The lesser of two numbers.
-pub fn least(a: usize, b: usize) -> usize
-    ensures { result ≤ b }
+// The n entries from a start on, if they are there.
+pub fn part<T>(list: &[T], start: usize, n: usize) -> Option<&[T]>
+    ensures there { IsSome result ↔ (start + n ≤ length list.now) }
+    ensures entries { IfSome result (λ p. p.now ≡ take n (drop start list.now)) }
 {
-    if a < b { a } else { b }
+    list.get(start..)?.get(..n)
 }
 
-// The larger of two numbers.
-pub fn most(a: usize, b: usize) -> usize {
-    if a < b { b } else { a }
+// The first n entries, or all if they are fewer.
+pub fn first<T>(list: &[T], n: usize) -> &[T]
+    ensures entries { result.now ≡ take n list.now }
+    ensures most { length result.now ≤ n }
+{
+    &list[..n.min(list.len())]
 }
 
 // How many of n entries are lent: one less to a call that is short of them, at most what there are.
 pub fn lent(n: usize, short: bool, most: usize) -> usize
     ensures { result ≤ most }
 {
-    if short && 0 < n {
-        return least(n - 1, most);
-    }
-    least(n, most)
+    n.saturating_sub(usize::from(short)).min(most)
 }

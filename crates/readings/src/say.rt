@@ -1,176 +1,149 @@
 // Answers in words.
-use crate::commands::Fault;
-use crate::print;
-use array_columns::Kind;
-use program_kit::output;
-use program_kit::output::Writer;
-use std::io;
+use crate::commands::{Fault, Making};
+use crate::mask::{Marks, Mask};
+use crate::table::Table;
+use crate::texts::Counted;
+use program_kit::lent::Refusal;
+use program_kit::output::layout_name;
+use std::alloc::{AllocError, AllocFailed};
+use std::fmt;
 
-// A line's number, before its answer.
-pub fn line(to: &mut Writer, number: u64) -> io::Result<()> {
-    output::decimal(to, number)?;
-    output::text(to, b": ")
+// What an append answers: the column of the reading, and whether it is new; the slots so far.
+#[derive(Clone, Copy)]
+pub struct Appended {
+    pub missing: bool,
+    pub fresh: bool,
+    pub column: usize,
+    pub len: usize,
 }
 
-// A bad line, which changes nothing.
-pub fn bad(to: &mut Writer, number: u64, why: &[u8]) -> io::Result<()> {
-    line(to, number)?;
-    output::text(to, b"bad line: ")?;
-    output::text(to, why)?;
-    output::text(to, b"\n")
+// What a command answers.
+#[derive(Drop)]
+pub enum Answer {
+    Made(Making),
+    Appended(Appended),
+    Len(usize),
+    Snapshot(Table),
+    Finished(Table),
+    Slice(Table),
+    Mask(Mask),
 }
 
-pub fn fault(to: &mut Writer, number: u64, f: Fault) -> io::Result<()> {
-    match f {
-        Fault::Unknown => bad(to, number, b"no such command"),
-        Fault::Missing => bad(to, number, b"a word is missing"),
-        Fault::Extra => bad(to, number, b"there are words after the command"),
-        Fault::Number => bad(to, number, b"not a number from 0 to 18446744073709551615"),
-        Fault::Quote => bad(to, number, b"the name's quotes are not closed"),
-        Fault::Kind => bad(to, number, b"no such kind"),
-        Fault::Value(kind) => bad_value(to, number, kind),
+// Why a command is not done. A name is as it is printed.
+#[derive(Drop)]
+pub enum Denied {
+    Bad(Fault),
+    NoBuilder,
+    NoBatch,
+    Refused(Refusal),
+    OtherKind(String),
+    Memory(AllocError),
+}
+
+impl From<Fault> for Denied {
+    fn from(fault: Fault) -> Denied {
+        Denied::Bad(fault)
     }
 }
 
-// A value that its kind does not have.
-fn bad_value(to: &mut Writer, number: u64, kind: Kind) -> io::Result<()> {
-    line(to, number)?;
-    output::text(to, b"bad line: the value is not a number of kind ")?;
-    print::kind(to, kind)?;
-    output::text(to, b"\n")
+impl From<Refusal> for Denied {
+    fn from(refusal: Refusal) -> Denied {
+        Denied::Refused(refusal)
+    }
+}
+
+impl From<AllocError> for Denied {
+    fn from(e: AllocError) -> Denied {
+        Denied::Memory(e)
+    }
+}
+
+impl<T: Drop> From<AllocFailed<T>> for Denied {
+    fn from(e: AllocFailed<T>) -> Denied {
+        Denied::Memory(AllocError::from(e))
+    }
 }
 
 // What each refusal of document 01 says.
-fn sentence(to: &mut Writer, n: u8) -> io::Result<()> {
-    match n {
-        1 => output::text(
-            to,
-            b"more than 128 columns, or ids that are not distinct and from 0 to 127",
-        ),
-        2 => output::text(to, b"not as many children as columns"),
-        3 => output::text(
-            to,
-            b"a part lies outside the memory, or a name has more than 32 bytes",
-        ),
-        4 => output::text(to, b"more than 65536 slots"),
-        5 => output::text(to, b"not as many offsets as slots"),
-        6 => output::text(to, b"a column has not as many slots as the batch"),
-        7 => output::text(to, b"a slot's id names no column"),
-        8 => output::text(to, b"an offset lies outside its column"),
-        9 => output::text(to, b"the slice ends after the last slot"),
-        10 => output::text(to, b"no such slot"),
-        11 => output::text(to, b"no such column"),
-        12 => output::text(to, b"the setting is none of 10, 3, 2 and 0"),
-        13 => output::text(to, b"too few words for the mask"),
-        14 => output::text(to, b"the strategy does not apply"),
-        15 => output::text(to, b"a builder has 1 to 65536 slots and 1 to 128 columns"),
-        16 => output::text(to, b"the memory is too small for so many slots and columns"),
-        17 => output::text(to, b"the name is not UTF-8 of at most 32 bytes"),
-        18 => output::text(to, b"the column has another kind"),
-        19 => output::text(to, b"every slot is taken"),
-        20 => output::text(to, b"every column is taken"),
-        _ => output::text(to, b"unknown"),
+fn sentence(refusal: Refusal) -> &'static str {
+    match refusal.number() {
+        1 => "more than 128 columns, or ids that are not distinct and from 0 to 127",
+        2 => "not as many children as columns",
+        3 => "a part lies outside the memory, or a name has more than 32 bytes",
+        4 => "more than 65536 slots",
+        5 => "not as many offsets as slots",
+        6 => "a column has not as many slots as the batch",
+        7 => "a slot's id names no column",
+        8 => "an offset lies outside its column",
+        9 => "the slice ends after the last slot",
+        10 => "no such slot",
+        11 => "no such column",
+        12 => "the setting is none of 10, 3, 2 and 0",
+        13 => "too few words for the mask",
+        14 => "the strategy does not apply",
+        15 => "a builder has 1 to 65536 slots and 1 to 128 columns",
+        16 => "the memory is too small for so many slots and columns",
+        17 => "the name is not UTF-8 of at most 32 bytes",
+        18 => "the column has another kind",
+        19 => "every slot is taken",
+        20 => "every column is taken",
+        _ => "unknown",
     }
 }
 
-// A refusal: its number and its sentence.
-pub fn refused(to: &mut Writer, number: u64, n: u8) -> io::Result<()> {
-    line(to, number)?;
-    output::text(to, b"refused ")?;
-    output::decimal(to, n as u64)?;
-    output::text(to, b": ")?;
-    sentence(to, n)?;
-    output::text(to, b"\n")
-}
-
-// A refused append; a known name of another kind is named.
-pub fn refused_append(to: &mut Writer, number: u64, n: u8, name: &[u8]) -> io::Result<()> {
-    if n != 18 {
-        return refused(to, number, n);
+impl fmt::Display for Denied {
+    fn fmt<W: fmt::Write>(&self, f: &mut fmt::Formatter<W>) -> fmt::Result {
+        match self {
+            Denied::Bad(fault) => write!(f, "bad line: {fault}"),
+            Denied::NoBuilder => f.write_str("no builder yet"),
+            Denied::NoBatch => f.write_str("no batch yet"),
+            Denied::Refused(no) => {
+                let number = no.number();
+                write!(f, "refused {number}: {}", sentence(*no))
+            }
+            Denied::OtherKind(name) => {
+                write!(f, "refused 18: the column \"{name}\" has another kind")
+            }
+            Denied::Memory(e) => write!(f, "{e}"),
+        }
     }
-    line(to, number)?;
-    output::text(to, b"refused 18: the column \"")?;
-    print::name(to, name)?;
-    output::text(to, b"\" has another kind\n")
 }
 
-// Whether there is a builder, or a batch; a line says if there is none.
-pub fn is_there(to: &mut Writer, number: u64, there: bool, what: &[u8]) -> io::Result<bool> {
-    if !there {
-        line(to, number)?;
-        output::text(to, b"no ")?;
-        output::text(to, what)?;
-        output::text(to, b" yet\n")?;
+impl fmt::Display for Making {
+    fn fmt<W: fmt::Write>(&self, f: &mut fmt::Formatter<W>) -> fmt::Result {
+        let layout = layout_name(self.layout);
+        let slots = Counted(self.capacity, "slot");
+        let columns = Counted(self.limit, "column");
+        write!(f, "{layout} builder of {slots} and {columns}")
     }
-    Ok(there)
 }
 
-// A making's answer.
-pub fn made(
-    to: &mut Writer,
-    number: u64,
-    dense: bool,
-    capacity: usize,
-    limit: usize,
-) -> io::Result<()> {
-    line(to, number)?;
-    output::layout(to, dense)?;
-    output::text(to, b" builder of ")?;
-    print::counted(to, capacity, b"slot")?;
-    output::text(to, b" and ")?;
-    print::counted(to, limit, b"column")?;
-    output::text(to, b"\n")
-}
-
-// An append's answer.
-pub fn appended(
-    to: &mut Writer,
-    number: u64,
-    null: bool,
-    fresh: bool,
-    column: usize,
-    len: usize,
-) -> io::Result<()> {
-    line(to, number)?;
-    if null {
-        output::text(to, b"null ")?;
+impl fmt::Display for Appended {
+    fn fmt<W: fmt::Write>(&self, f: &mut fmt::Formatter<W>) -> fmt::Result {
+        let null = if self.missing { "null " } else { "" };
+        let new = if self.fresh { "new " } else { "" };
+        let column = self.column;
+        let slots = Counted(self.len, "slot");
+        write!(f, "{null}appended to {new}column {column}, {slots} so far")
     }
-    output::text(to, b"appended to ")?;
-    if fresh {
-        output::text(to, b"new ")?;
-    }
-    output::text(to, b"column ")?;
-    output::decimal(to, column as u64)?;
-    output::text(to, b", ")?;
-    print::counted(to, len, b"slot")?;
-    output::text(to, b" so far\n")
 }
 
-// The batch that a builder described, or finished.
-pub fn described(to: &mut Writer, number: u64, last: bool, n: usize) -> io::Result<()> {
-    if last {
-        return slots(
-            to,
-            number,
-            b"finished ",
-            n,
-            b"; the builder is now empty and sparse",
-        );
+impl fmt::Display for Answer {
+    fn fmt<W: fmt::Write>(&self, f: &mut fmt::Formatter<W>) -> fmt::Result {
+        match self {
+            Answer::Made(m) => write!(f, "{m}"),
+            Answer::Appended(a) => write!(f, "{a}"),
+            Answer::Len(n) => write!(f, "{} so far", Counted(*n, "slot")),
+            Answer::Snapshot(t) => write!(f, "snapshot of {}\n{t}", Counted(t.len(), "slot")),
+            Answer::Finished(t) => {
+                let slots = Counted(t.len(), "slot");
+                write!(
+                    f,
+                    "finished {slots}; the builder is now empty and sparse\n{t}"
+                )
+            }
+            Answer::Slice(t) => write!(f, "slice of {}\n{t}", Counted(t.len(), "slot")),
+            Answer::Mask(mask) => write!(f, "{mask}{}", Marks(mask)),
+        }
     }
-    slots(to, number, b"snapshot of ", n, b"")
-}
-
-// How many slots there are, between two texts.
-pub fn slots(
-    to: &mut Writer,
-    number: u64,
-    before: &[u8],
-    n: usize,
-    after: &[u8],
-) -> io::Result<()> {
-    line(to, number)?;
-    output::text(to, before)?;
-    print::counted(to, n, b"slot")?;
-    output::text(to, after)?;
-    output::text(to, b"\n")
 }

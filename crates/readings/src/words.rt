@@ -1,111 +1,68 @@
 // Words of a line: runs of bytes between spaces and tabs, or for a name between double quotes.
-ghost use Rattle.std.specs.Prelude.{◌<◌, length};
+use crate::commands::Fault;
+use crate::texts;
 
-use union_names::names;
-
-// A word's bytes are `start` to `end` - 1; what follows starts at `next`. `found` says that there is one, `closed` that its last quote is there.
-#[derive(Clone, Copy)]
-pub struct Word {
-    pub start: usize,
-    pub end: usize,
-    pub next: usize,
-    pub found: bool,
-    pub closed: bool,
-}
+// What is left of a line, from which words are taken.
+#[derive(Drop)]
+pub struct Words<'a>(pub &'a [u8]);
 
 fn is_blank(b: u8) -> bool {
     b == b' ' || b == b'\t'
 }
 
-// What a search looks for.
-#[derive(Clone, Copy)]
-enum Mark {
-    Blank,
-    NoBlank,
-    Quote,
-}
-
-fn is_mark(b: u8, m: Mark) -> bool {
-    match m {
-        Mark::Blank => is_blank(b),
-        Mark::NoBlank => !is_blank(b),
-        Mark::Quote => b == b'"',
-    }
-}
-
-// The place of the first mark from `from` on, or the end.
-fn find(text: &[u8], from: usize, m: Mark) -> usize {
-    let mut i = from;
-    while i < text.len() {
-        if is_mark(text[i], m) {
-            return i;
-        }
-        i += 1;
-    }
-    i
-}
-
-// The next bare word.
-pub fn next_word(text: &[u8], from: usize) -> Word {
-    let start = find(text, from, Mark::NoBlank);
-    let end = find(text, start, Mark::Blank);
-    Word {
-        start,
-        end,
-        next: end,
-        found: start < end,
-        closed: true,
-    }
-}
-
-// A name in double quotes, of which the first is at `quote`. A blank or the line's end must follow the last.
-fn quoted(text: &[u8], quote: usize) -> Word
-    requires { quote < length text.now }
+// The bytes before the first that ends them, and the rest from it on.
+fn split<F: Fn(u8) -> bool>(text: &[u8], is_end: F) -> (&[u8], &[u8])
+    requires { F.IsAlwaysCallable is_end }
 {
-    let start = quote + 1;
-    let end = find(text, start, Mark::Quote);
-    if text.len() <= end {
-        return Word {
-            start,
-            end,
-            next: end,
-            found: true,
-            closed: false,
-        };
-    }
-    let next = end + 1;
-    Word {
-        start,
-        end,
-        next,
-        found: true,
-        closed: find(text, next, Mark::Blank) == next,
-    }
+    let n = text.iter().position(|b| is_end(*b)).unwrap_or(text.len());
+    text.split_at(n)
 }
 
-// The next word, a name.
-pub fn next_name(text: &[u8], from: usize) -> Word {
-    let start = find(text, from, Mark::NoBlank);
-    if start < text.len() {
-        if text[start] == b'"' {
-            return quoted(text, start);
+impl<'a> Words<'a> {
+    // What is left from its first word on.
+    fn skip_blanks(&mut self) {
+        self.0 = split(self.0, |b| !is_blank(b)).1;
+    }
+
+    // The next bare word, if there is one.
+    pub fn next(&mut self) -> Option<&'a [u8]> {
+        self.skip_blanks();
+        let (word, rest) = split(self.0, is_blank);
+        self.0 = rest;
+        if word.is_empty() { None } else { Some(word) }
+    }
+
+    // The next bare word, which must be there.
+    pub fn word(&mut self) -> Result<&'a [u8], Fault> {
+        self.next().ok_or(Fault::Missing)
+    }
+
+    // The next word, which must be a number.
+    pub fn number(&mut self) -> Result<usize, Fault> {
+        texts::number(self.word()?).ok_or(Fault::Number)
+    }
+
+    // The next word, a name. A blank or the line's end must follow its last quote.
+    pub fn name(&mut self) -> Result<&'a [u8], Fault> {
+        self.skip_blanks();
+        let [b'"', quoted @ ..] = self.0 else {
+            return self.word();
+        };
+        let (name, rest) = split(quoted, |b| b == b'"');
+        match rest {
+            [_, after @ ..] if after.first().is_none_or(|b| is_blank(*b)) => {
+                self.0 = after;
+                Ok(name)
+            }
+            _ => Err(Fault::Quote),
         }
     }
-    next_word(text, start)
-}
 
-// The bytes from `start` to `end` - 1.
-pub fn part(text: &[u8], start: usize, end: usize) -> &[u8] {
-    if end < start {
-        return &text[..0];
+    // No word is left.
+    pub fn end(&mut self) -> Result<(), Fault> {
+        match self.next() {
+            None => Ok(()),
+            Some(_) => Err(Fault::Extra),
+        }
     }
-    if text.len() < end {
-        return &text[..0];
-    }
-    &text[start..end]
-}
-
-// Whether two texts are the same bytes.
-pub fn same(a: &[u8], b: &[u8]) -> bool {
-    names::same_name(a, 0, a.len(), b)
 }

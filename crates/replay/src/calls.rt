@@ -1,115 +1,129 @@
-// The calls of a case, in order. The answer of each is a line.
-use crate::builders::Subject;
-use crate::describe::{Call, Places};
-use crate::{builders, describe, lists, masks as null_masks, numbers, whole};
-use program_kit::output::Writer;
-use std::io;
+// The calls of a case, from their numbers.
+use crate::memory::Part;
+use crate::narrow;
+use array_columns::Layout;
+use logical_nulls::SparseStrategy;
+use std::fmt;
 
-// Calls 1 to 15, on the array and on lent memory.
-fn asked(
-    to: &mut Writer,
-    s: Subject,
-    c: Call,
-    ids: &[i8],
-    offsets: &[i32],
-    values: &[u64],
-    masks: &[u64],
-    names: &[u8],
-) -> io::Result<Subject> {
-    let op = c.op;
-    let a = s.array;
-    match op {
-        9 => {
-            let builder = s.builder;
-            let array = whole::slice(to, a, c, ids, offsets, values, masks, names)?;
-            return Ok(Subject { builder, array });
+// A call on an array, or what is told of it and of lent memory with no call.
+#[derive(Clone, Copy)]
+pub enum Ask {
+    TryNew,
+    Value(usize),
+    TypeId(usize),
+    ValueOffset(usize),
+    Child(i8),
+    TypeNames,
+    IsDense,
+    IsNullable,
+    NullsAt(usize, usize),
+    NullsBy(SparseStrategy, usize),
+    TypeIds,
+    Fields,
+    Words(i8),
+    Lent,
+}
+
+// A call that what comes after it is made on: a slice, or one on the builder.
+#[derive(Clone, Copy)]
+pub enum Op {
+    Ask(Ask),
+    Slice(usize, usize),
+    Make(Layout, usize, usize),
+    Append(usize, Option<u64>),
+    Len,
+    FinishCloned,
+    Finish,
+}
+
+// A number that names no call. It is printed as refused by 255.
+#[derive(Clone, Copy)]
+pub struct UnknownCall;
+
+impl fmt::Display for UnknownCall {
+    fn fmt<W: fmt::Write>(&self, f: &mut fmt::Formatter<W>) -> fmt::Result {
+        write!(f, "255")
+    }
+}
+
+// The strategy of a route.
+fn strategy_of(route: u64) -> SparseStrategy {
+    match route {
+        4 => SparseStrategy::SkipOne,
+        5 => SparseStrategy::SkipWithoutNulls,
+        6 => SparseStrategy::SkipFullyNull,
+        _ => SparseStrategy::Gather,
+    }
+}
+
+// From a call's number and its two arguments.
+impl TryFrom<[u64; 3]> for Ask {
+    type Error = UnknownCall;
+
+    fn try_from(numbers: [u64; 3]) -> Result<Ask, UnknownCall> {
+        let [call, a, b] = numbers;
+        let i = a as usize;
+        let id = narrow::id(a);
+        let words = b as usize;
+        match call {
+            1 => Ok(Ask::TryNew),
+            2 => Ok(Ask::Value(i)),
+            3 => Ok(Ask::TypeId(i)),
+            4 => Ok(Ask::ValueOffset(i)),
+            5 => Ok(Ask::Child(id)),
+            6 => Ok(Ask::TypeNames),
+            7 => Ok(Ask::IsDense),
+            8 => Ok(Ask::IsNullable),
+            10 => Ok(Ask::NullsAt(i, words)),
+            11 => Ok(Ask::NullsBy(strategy_of(a), words)),
+            12 => Ok(Ask::TypeIds),
+            13 => Ok(Ask::Fields),
+            14 => Ok(Ask::Words(id)),
+            15 => Ok(Ask::Lent),
+            _ => Err(UnknownCall),
         }
-        10..=11 => null_masks::answer(to, a, c, ids, offsets, values, masks, names)?,
-        _ => whole::answer(to, a, c, ids, offsets, values, masks, names)?,
-    }
-    Ok(s)
-}
-
-// A call over the memory lent to it, and what the next calls are made on.
-fn call(
-    to: &mut Writer,
-    s: Subject,
-    words: &[u64],
-    readings: usize,
-    text: &[u8],
-    c: Call,
-    ids: &mut [i8],
-    offsets: &mut [i32],
-    values: &mut [u64],
-    masks: &mut [u64],
-    names: &mut [u8],
-) -> io::Result<Subject> {
-    let op = c.op;
-    match op {
-        20..=21 => builders::made(to, s, c, ids, offsets, values, masks, names),
-        22..=23 => builders::appended(
-            to, s, words, readings, text, c, ids, offsets, values, masks, names,
-        ),
-        24 => builders::counted(to, s, c),
-        25..=26 => builders::finished(to, s, c, ids, offsets, values, masks, names),
-        _ => asked(to, s, c, ids, offsets, values, masks, names),
     }
 }
 
-// A call, lent of each part what the case lends to it.
-fn lent_call(
-    to: &mut Writer,
-    s: Subject,
-    words: &[u64],
-    p: Places,
-    text: &[u8],
-    c: Call,
-    ids: &mut [i8],
-    offsets: &mut [i32],
-    values: &mut [u64],
-    masks: &mut [u64],
-    names: &mut [u8],
-) -> io::Result<Subject> {
-    let some_ids = lists::lent(words, p.ids, c.short == 1, ids.len());
-    let some_offsets = lists::lent(words, p.offsets, c.short == 2, offsets.len());
-    let some_values = lists::lent(words, p.values, c.short == 3, values.len());
-    let some_masks = lists::lent(words, p.masks, c.short == 4, masks.len());
-    let some_names = lists::lent(words, p.names, c.short == 5, names.len());
-    call(
-        to,
-        s,
-        words,
-        p.readings,
-        text,
-        c,
-        &mut ids[0..some_ids],
-        &mut offsets[0..some_offsets],
-        &mut values[0..some_values],
-        &mut masks[0..some_masks],
-        &mut names[0..some_names],
-    )
+// From a call's number and its two arguments.
+impl TryFrom<[u64; 3]> for Op {
+    type Error = UnknownCall;
+
+    fn try_from(numbers: [u64; 3]) -> Result<Op, UnknownCall> {
+        let [call, a, b] = numbers;
+        let m = a as usize;
+        let n = b as usize;
+        match call {
+            9 => Ok(Op::Slice(m, n)),
+            20 => Ok(Op::Make(Layout::Dense, m, n)),
+            21 => Ok(Op::Make(Layout::Sparse, m, n)),
+            22 => Ok(Op::Append(m, Some(b))),
+            23 => Ok(Op::Append(m, None)),
+            24 => Ok(Op::Len),
+            25 => Ok(Op::FinishCloned),
+            26 => Ok(Op::Finish),
+            _ => Ok(Op::Ask(Ask::try_from(numbers)?)),
+        }
+    }
 }
 
-// The calls of a case; answers the place after them.
-pub fn run(
-    to: &mut Writer,
-    start: Subject,
-    words: &[u64],
-    p: Places,
-    text: &[u8],
-    ids: &mut [i8],
-    offsets: &mut [i32],
-    values: &mut [u64],
-    masks: &mut [u64],
-    names: &mut [u8],
-) -> io::Result<usize> {
-    let mut s = start;
-    let mut at = numbers::past(p.calls, 1);
-    let n = numbers::count(words, p.calls);
-    for _ in 0..n {
-        let c = describe::call_at(words, at);
-        s = lent_call(to, s, words, p, text, c, ids, offsets, values, masks, names)?;
-        at = numbers::past(at, 5);
+// A call: its number, what it asks, whose word its answer is, and the part of memory that it is short of.
+#[derive(Clone, Copy)]
+pub struct Call {
+    pub number: u64,
+    pub op: Result<Op, UnknownCall>,
+    pub by: u64,
+    pub short: Option<Part>,
+}
+
+impl From<[u64; 5]> for Call {
+    fn from(numbers: [u64; 5]) -> Call {
+        let [number, a, b, by, short] = numbers;
+        Call {
+            number,
+            op: Op::try_from([number, a, b]),
+            by,
+            short: Part::of(short),
+        }
     }
-    Ok(at)
 }

@@ -1,114 +1,122 @@
-// The cases, in order. Each lends its own memory.
-use crate::builders::Subject;
-use crate::describe::Places;
-use crate::{calls, describe, lists, numbers};
-use program_kit::builders;
+// The cases, in order: an array, the memory that is lent, the readings that are appended, and the calls.
+use crate::calls::Call;
+use crate::memory::{Memory, entries};
+use crate::numbers::Numbers;
+use crate::run::Subject;
+use crate::{narrow, print};
+use array_columns::{Column, Kind, Layout, kinds, questions};
 use program_kit::output::Writer;
+use program_kit::{builders, parts};
+use std::alloc::{AllocError, Global};
 use std::io;
+use union_array::UnionArray;
 
-// Stores entry i of each part of a case's memory.
-fn put(
-    words: &[u64],
-    p: Places,
-    i: usize,
-    text: &mut [u8],
-    ids: &mut [i8],
-    offsets: &mut [i32],
-    values: &mut [u64],
-    masks: &mut [u64],
-    names: &mut [u8],
-) {
-    lists::put_byte(words, p.text, i, text);
-    lists::put_id(words, p.ids, i, ids);
-    lists::put_offset(words, p.offsets, i, offsets);
-    lists::put_word(words, p.values, i, values);
-    lists::put_word(words, p.masks, i, masks);
-    lists::put_byte(words, p.names, i, names);
+// The kind with a number; any other number is read as Int8.
+fn kind_of(n: u64) -> Kind {
+    u8::try_from(n).map_or(Kind::Int8, kinds::kind_from)
 }
 
-// Fills the memory of a case, n entries of each part at most.
-fn fill(
-    words: &[u64],
-    p: Places,
-    n: usize,
-    text: &mut [u8],
-    ids: &mut [i8],
-    offsets: &mut [i32],
-    values: &mut [u64],
-    masks: &mut [u64],
-    names: &mut [u8],
-) {
-    for i in 0..n {
-        put(words, p, i, text, ids, offsets, values, masks, names);
+fn layout_of(n: u64) -> Layout {
+    match n {
+        1 => Layout::Dense,
+        _ => Layout::Sparse,
     }
 }
 
-// What the calls of the case at a place are made on first: its array, and a builder whose making was refused.
-fn subject(words: &[u64], at: usize) -> Subject {
-    Subject {
+fn column(numbers: [u64; 9]) -> Column {
+    let [values, mask, name, slots, bit, size, id, kind, masked] = numbers;
+    Column {
+        values: values as usize,
+        mask: mask as usize,
+        name: name as usize,
+        slots: narrow::word(slots),
+        bit: narrow::byte(bit),
+        size: narrow::byte(size),
+        id: narrow::id(id),
+        kind: kind_of(kind),
+        masked: masked == 1,
+    }
+}
+
+// A list of columns, zeros after them.
+fn columns(numbers: &mut Numbers) -> [Column; 128] {
+    let mut list = [questions::no_column(); 128];
+    let n = numbers.size();
+    for (c, row) in list.iter_mut().zip(numbers.rows(n)) {
+        *c = column(*row);
+    }
+    list
+}
+
+fn array(numbers: &mut Numbers) -> UnionArray {
+    let layout = layout_of(numbers.next());
+    let fields = numbers.size();
+    let children = numbers.size();
+    let start = numbers.size();
+    let count = numbers.size();
+    let offsets_start = numbers.size();
+    let offsets_count = numbers.size();
+    UnionArray {
+        columns: columns(numbers),
+        fields,
+        children,
+        start,
+        count,
+        offsets_start,
+        offsets_count,
+        layout,
+    }
+}
+
+// The readings that calls append: the bytes of their names, and of each where its name starts, its size, and the kind.
+#[derive(Drop)]
+pub struct Readings<'a> {
+    text: Vec<u8>,
+    list: &'a [[u64; 3]],
+}
+
+impl<'a> Readings<'a> {
+    fn read(alloc: Global, numbers: &mut Numbers<'a>) -> Result<Readings<'a>, AllocError> {
+        let text = entries(alloc, numbers, narrow::byte)?;
+        let (list, _) = numbers.list().as_chunks();
+        Ok(Readings { text, list })
+    }
+
+    // The name and the kind of reading k.
+    pub fn at(&self, k: usize) -> (&[u8], Kind) {
+        let [start, size, kind] = self.list.get(k).copied().unwrap_or([0; 3]);
+        let name = parts::part(&self.text, start as usize, size as usize).unwrap_or(&[]);
+        (name, kind_of(kind))
+    }
+}
+
+// Runs a case, which makes its calls on its array at first, and on a builder whose making was refused.
+fn case(to: &mut Writer, alloc: Global, numbers: &mut Numbers) -> io::Result<()> {
+    let mut subject = Subject {
+        array: array(numbers),
         builder: builders::refused(),
-        array: describe::array(words, at),
-    }
-}
-
-// Runs the case at a place over memory that it fills; answers the place after it.
-fn case_in(
-    to: &mut Writer,
-    words: &[u64],
-    at: usize,
-    text: &mut [u8],
-    ids: &mut [i8],
-    offsets: &mut [i32],
-    values: &mut [u64],
-    masks: &mut [u64],
-    names: &mut [u8],
-) -> io::Result<usize> {
-    let p = describe::locate(words, at);
-    let n = describe::most_lent(words, p);
-    fill(words, p, n, text, ids, offsets, values, masks, names);
-    calls::run(
-        to,
-        subject(words, at),
-        words,
-        p,
-        text,
-        ids,
-        offsets,
-        values,
-        masks,
-        names,
-    )
-}
-
-// Runs the case at a place; answers the place after it.
-fn case(to: &mut Writer, words: &[u64], at: usize) -> io::Result<usize> {
-    let mut text = [0u8; 1024];
-    let mut ids = [0i8; 65537];
-    let mut offsets = [0i32; 65537];
-    let mut values = [0u64; 65537];
-    let mut masks = [0u64; 1024];
-    let mut names = [0u8; 4096];
-    case_in(
-        to,
-        words,
-        at,
-        &mut text,
-        &mut ids,
-        &mut offsets,
-        &mut values,
-        &mut masks,
-        &mut names,
-    )
-}
-
-// Runs the cases, each of which begins with 1.
-pub fn run(to: &mut Writer, words: &[u64]) -> io::Result<()> {
-    let mut at: usize = 0;
-    for _ in 0..words.len() {
-        if numbers::get(words, at) != 1 {
-            return Ok(());
+    };
+    let mut memory = Memory::read(alloc, numbers)?;
+    let readings = Readings::read(alloc, numbers)?;
+    let n = numbers.size();
+    for row in numbers.rows(n) {
+        let c = Call::from(*row);
+        match c.op {
+            Ok(op) => subject.call(to, &c, op, &readings, &mut memory.lent(c.short))?,
+            Err(e) => print::line(to, &c, Err(e), print::nothing::<()>)?,
         }
-        at = case(to, words, at)?;
+    }
+    Ok(())
+}
+
+// Runs the cases, each of which begins with 1: at most as many as there are numbers.
+pub fn run(to: &mut Writer, alloc: Global, numbers: &mut Numbers) -> io::Result<()> {
+    // Until the numbers end: a loop over them says how often at most.
+    for _ in 0..numbers.len() {
+        if numbers.next() != 1 {
+            break;
+        }
+        case(to, alloc, numbers)?;
     }
     Ok(())
 }

@@ -1,0 +1,91 @@
+// The null mask of a batch, in words and marks.
+use logical_nulls::Route;
+use program_kit::lent::{Buffers, Refusal};
+use program_kit::masks;
+use std::fmt;
+use union_array::UnionArray;
+
+// The null mask of a batch's slots at a setting: its words, if it is present.
+#[derive(Clone, Copy)]
+pub struct Mask {
+    setting: usize,
+    slots: usize,
+    nulls: usize,
+    route: Route,
+    words: Option<[u64; 64]>,
+}
+
+impl Mask {
+    pub fn new(array: &UnionArray, setting: usize, lent: &Buffers<'_>) -> Result<Mask, Refusal> {
+        let mut words = [0u64; 64];
+        let r = masks::at_setting(array, setting, lent, &mut words)?;
+        Ok(Mask {
+            setting,
+            slots: array.count,
+            nulls: r.nulls,
+            route: r.route,
+            words: r.present.then_some(words),
+        })
+    }
+
+    // Whether a slot is marked null: the mask is present, and its bit is clear.
+    pub fn is_null(&self, i: usize) -> bool {
+        let Some(words) = &self.words else {
+            return false;
+        };
+        words.get(i / 64).is_some_and(|w| (*w >> (i % 64)) & 1 == 0)
+    }
+}
+
+fn route_name(route: Route) -> &'static str {
+    match route {
+        Route::Absent => "no column has a null",
+        Route::OneField => "one column",
+        Route::AllNull => "only nulls",
+        Route::Gather => "gather",
+        Route::SkipOne => "skip one",
+        Route::SkipWithoutNulls => "skip without nulls",
+        Route::SkipFullyNull => "skip fully null",
+    }
+}
+
+// What the mask answers, but for its words.
+impl fmt::Display for Mask {
+    fn fmt<W: fmt::Write>(&self, f: &mut fmt::Formatter<W>) -> fmt::Result {
+        let Mask {
+            setting,
+            slots,
+            nulls,
+            route,
+            words,
+        } = *self;
+        let there = if words.is_some() { "present" } else { "absent" };
+        let number = route.number();
+        let name = route_name(route);
+        write!(
+            f,
+            "nulls {nulls} of {slots}, mask {there}, route {number} ({name}) at setting {setting}"
+        )
+    }
+}
+
+// The marks of a mask's slots, if it is present: lines of 64, each after a line's end.
+#[derive(Clone, Copy)]
+pub struct Marks<'a>(pub &'a Mask);
+
+impl fmt::Display for Marks<'_> {
+    fn fmt<W: fmt::Write>(&self, f: &mut fmt::Formatter<W>) -> fmt::Result {
+        let mask = self.0;
+        if mask.words.is_none() {
+            return Ok(());
+        }
+        // By slot number, which is what a mask is asked.
+        for i in 0..mask.slots {
+            if i % 64 == 0 {
+                write!(f, "\n{i:>10}  ")?;
+            }
+            f.write_char(if mask.is_null(i) { 'N' } else { '.' })?;
+        }
+        Ok(())
+    }
+}

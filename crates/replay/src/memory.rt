@@ -1,0 +1,88 @@
+// The memory that a case lends to its calls.
+ghost use Rattle.std.specs.Prelude.{◌≤◌, length};
+
+use crate::narrow;
+use crate::numbers::Numbers;
+use program_kit::lent::{Buffers, BuffersMut};
+use std::alloc::{AllocError, Global};
+
+// A part of lent memory.
+#[derive(Clone, Copy, PartialEq, Eq)]
+pub enum Part {
+    TypeIds,
+    Offsets,
+    Values,
+    Masks,
+    Names,
+}
+
+impl Part {
+    // The part with a number, from 1 on.
+    pub fn of(n: u64) -> Option<Part> {
+        match n {
+            1 => Some(Part::TypeIds),
+            2 => Some(Part::Offsets),
+            3 => Some(Part::Values),
+            4 => Some(Part::Masks),
+            5 => Some(Part::Names),
+            _ => None,
+        }
+    }
+}
+
+// How many entries of a part are lent at most.
+const MOST: usize = 65537;
+
+// A part: how many entries are lent, and the first of them as a list. The rest are like the last of the list, 0 if it has none.
+pub fn entries<T: Copy, F: Fn(u64) -> T>(
+    alloc: Global,
+    numbers: &mut Numbers,
+    narrow: F,
+) -> Result<Vec<T>, AllocError>
+    requires { F.IsAlwaysCallable narrow }
+{
+    let n = numbers.size().min(MOST);
+    let list = numbers.list();
+    let last = list.last().copied().unwrap_or(0);
+    let mut out: Vec<T> = list.iter().take(n).map(|x| narrow(*x)).collect(alloc)?;
+    out.resize(n, narrow(last))?;
+    Ok(out)
+}
+
+#[derive(Drop)]
+pub struct Memory {
+    type_ids: Vec<i8>,
+    offsets: Vec<i32>,
+    values: Vec<u64>,
+    masks: Vec<u64>,
+    names: Vec<u8>,
+}
+
+// What is lent of a part: one entry less to a call that is short of it.
+fn but_one<T>(list: &mut [T], short: bool) -> &mut [T] {
+    let n = list.len().saturating_sub(usize::from(short));
+    &mut list[..n]
+}
+
+impl Memory {
+    pub fn read(alloc: Global, numbers: &mut Numbers) -> Result<Memory, AllocError> {
+        Ok(Memory {
+            type_ids: entries(alloc, numbers, narrow::id)?,
+            offsets: entries(alloc, numbers, narrow::offset)?,
+            values: entries(alloc, numbers, |n| n)?,
+            masks: entries(alloc, numbers, |n| n)?,
+            names: entries(alloc, numbers, narrow::byte)?,
+        })
+    }
+
+    // What is lent to a call that is short of a part, or of none.
+    pub fn lent(&mut self, short: Option<Part>) -> BuffersMut<'_> {
+        BuffersMut {
+            type_ids: but_one(&mut self.type_ids, short == Some(Part::TypeIds)),
+            offsets: but_one(&mut self.offsets, short == Some(Part::Offsets)),
+            values: but_one(&mut self.values, short == Some(Part::Values)),
+            masks: but_one(&mut self.masks, short == Some(Part::Masks)),
+            names: but_one(&mut self.names, short == Some(Part::Names)),
+        }
+    }
+}
