@@ -1,10 +1,9 @@
 // Makings at the limits of slots and columns, and calls of a builder that are lent too little.
-use crate::print::layout_name;
 use crate::read;
 use array_columns::Layout;
-use program_kit::builders;
 use program_kit::lent::{Buffers, number_of};
-use program_kit::output::Writer;
+use program_kit::output::{Writer, layout_name};
+use program_kit::{builders, parts};
 use std::io;
 use std::io::Write;
 
@@ -37,8 +36,7 @@ fn made(
 
 // The first n entries of a part of memory, one less where it is short.
 fn first<T>(list: &[T], n: usize, short: bool) -> &[T] {
-    list.get(..n.saturating_sub(usize::from(short)))
-        .unwrap_or(list)
+    parts::first(list, parts::lent(n, short, list.len()))
 }
 
 // The part of memory of which one element too few is lent, if it is one. It is printed by its number from 0.

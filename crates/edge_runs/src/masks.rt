@@ -1,30 +1,35 @@
 // The null mask at each setting, and by each named strategy.
 use crate::print;
 use crate::print::yes;
-use logical_nulls::SparseStrategy;
+use logical_nulls::{LogicalNulls, SparseStrategy};
 use null_strategy::Route;
 use program_kit::lent::{Refusal, number_of};
 use program_kit::output::Writer;
-use program_kit::view::{Nulls, View};
+use program_kit::view::View;
 use std::io;
 use std::io::Write;
 
 // What stands for a null mask that is refused.
-const ABSENT: Nulls = Nulls {
-    null_count: None,
+const ABSENT: LogicalNulls = LogicalNulls {
+    nulls: 0,
+    refusal: 0,
     route: Route::Absent,
+    present: false,
 };
 
 // A null mask on a line: number, present, null count, route, words.
-fn line<F: FnOnce(&mut [u64]) -> Result<Nulls, Refusal>>(to: &mut Writer, mask: F) -> io::Result<()>
+fn line<F: FnOnce(&mut [u64]) -> Result<LogicalNulls, Refusal>>(
+    to: &mut Writer,
+    mask: F,
+) -> io::Result<()>
     requires { F.IsAlwaysCallable mask }
 {
     let mut words = [0xff; 3];
     let answer = mask(&mut words);
     let nulls = answer.unwrap_or(ABSENT);
     write!(to, ": {}", number_of(answer))?;
-    write!(to, " {}", yes(nulls.null_count.is_some()))?;
-    write!(to, " {}", nulls.null_count.unwrap_or(0))?;
+    write!(to, " {}", yes(nulls.present))?;
+    write!(to, " {}", nulls.nulls)?;
     write!(to, " {}", nulls.route.number())?;
     print::words(to, &words)?;
     writeln!(to)

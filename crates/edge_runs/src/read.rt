@@ -1,11 +1,11 @@
 // What a builder finishes, read back: fields, slots, type ids.
 use crate::memory::Memory;
 use crate::play::Played;
-use crate::print::{layout_name, yes};
+use crate::print::yes;
 use crate::{fields, print, shown, slots};
 use program_kit::builders;
 use program_kit::lent::{Refusal, number_of};
-use program_kit::output::Writer;
+use program_kit::output::{Writer, layout_name};
 use program_kit::view::View;
 use std::io;
 use std::io::Write;

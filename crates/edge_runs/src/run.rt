@@ -1,11 +1,11 @@
 // A list played by `append` and by `append_mut`, and what it leaves, read back.
 use crate::lists::List;
 use crate::play::{Played, play};
-use crate::print::{layout_name, yes};
+use crate::print::yes;
 use crate::{notes, read, refusals, rounds, same};
 use array_columns::Layout;
 use program_kit::builders;
-use program_kit::output::Writer;
+use program_kit::output::{Writer, layout_name};
 use std::alloc::Global;
 use std::io;
 use std::io::Write;

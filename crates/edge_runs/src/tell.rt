@@ -1,7 +1,8 @@
 // Whether slots tell the entries of a round.
 use crate::lists::Entry;
+use array_columns::Value;
 use array_columns::kinds::kind_number;
-use program_kit::view::{Value, View};
+use program_kit::view::View;
 
 // Whether a value's 32 name bytes are a name's, with zeros after it.
 fn is_named(v: &Value, name: &[u8]) -> bool {
@@ -16,7 +17,7 @@ fn tells(view: &View, slot: usize, e: &Entry) -> bool {
     match view.value(slot) {
         Ok(v) => v.id == id
             && kind_number(v.kind) == kind_number(e.kind)
-            && v.value == e.value
+            && (!v.missing).then_some(v.bits) == e.value
             && is_named(&v, e.name),
         Err(_) => false,
     }

@@ -1,8 +1,7 @@
 // The calls on an array, over the memory lent to them.
 use crate::lent::{Buffers, Refusal, unless};
-use array_columns::{Column, Kind};
+use array_columns::{Column, Value};
 use logical_nulls::{LogicalNulls, SparseStrategy, mask, named};
-use null_strategy::Route;
 use union_array::{TypeNames, UnionArray};
 
 // An array, and what is lent to a call on it.
@@ -10,40 +9,6 @@ use union_array::{TypeNames, UnionArray};
 pub struct View<'a> {
     pub array: UnionArray,
     pub lent: &'a Buffers<'a>,
-}
-
-// A slot's value, none when missing, and the name, id and kind of its column.
-#[derive(Clone, Copy)]
-pub struct Value {
-    pub value: Option<u64>,
-    pub name: [u8; 32],
-    pub size: u8,
-    pub id: i8,
-    pub kind: Kind,
-}
-
-// What stands for the value of a slot that is refused.
-pub fn no_value() -> Value {
-    Value {
-        value: Some(0),
-        name: [0; 32],
-        size: 0,
-        id: 0,
-        kind: Kind::Int8,
-    }
-}
-
-// A null mask: how many nulls it has, none if it is absent, and the route.
-#[derive(Clone, Copy)]
-pub struct Nulls {
-    pub null_count: Option<usize>,
-    pub route: Route,
-}
-
-fn told(r: LogicalNulls) -> Result<Nulls, Refusal> {
-    let null_count = r.present.then_some(r.nulls);
-    let route = r.route;
-    unless(r.refusal, Nulls { null_count, route })
 }
 
 impl<'a> View<'a> {
@@ -60,19 +25,7 @@ impl<'a> View<'a> {
         let r = self
             .array
             .value(i, l.type_ids, l.offsets, l.values, l.masks, l.names);
-        let value = if r.missing { None } else { Some(r.bits) };
-        let name = r.name;
-        let kind = r.kind;
-        unless(
-            r.refusal,
-            Value {
-                value,
-                name,
-                size: r.size,
-                id: r.id,
-                kind,
-            },
-        )
+        unless(r.refusal, r)
     }
 
     pub fn type_id(&self, i: usize) -> Result<i8, Refusal> {
@@ -146,20 +99,24 @@ impl<'a> View<'a> {
     }
 
     // The null mask at a setting, its words in `out`.
-    pub fn nulls_at(&self, setting: usize, out: &mut [u64]) -> Result<Nulls, Refusal> {
+    pub fn nulls_at(&self, setting: usize, out: &mut [u64]) -> Result<LogicalNulls, Refusal> {
         let l = self.lent;
         let r = mask::logical_nulls(
             self.array, setting, l.type_ids, l.offsets, l.values, l.masks, l.names, out,
         );
-        told(r)
+        unless(r.refusal, r)
     }
 
     // The null mask by a named strategy, its words in `out`.
-    pub fn nulls_by(&self, strategy: SparseStrategy, out: &mut [u64]) -> Result<Nulls, Refusal> {
+    pub fn nulls_by(
+        &self,
+        strategy: SparseStrategy,
+        out: &mut [u64],
+    ) -> Result<LogicalNulls, Refusal> {
         let l = self.lent;
         let r = named::run_strategy(
             self.array, strategy, l.type_ids, l.offsets, l.values, l.masks, l.names, out,
         );
-        told(r)
+        unless(r.refusal, r)
     }
 }

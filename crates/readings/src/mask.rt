@@ -1,9 +1,8 @@
 // The null mask of a batch, in words and marks.
 use logical_nulls::Route;
-use program_kit::lent::{Buffers, Refusal};
-use program_kit::masks;
+use program_kit::lent::Refusal;
+use program_kit::view::View;
 use std::fmt;
-use union_array::UnionArray;
 
 // The null mask of a batch's slots at a setting: its words, if it is present.
 #[derive(Clone, Copy)]
@@ -16,12 +15,12 @@ pub struct Mask {
 }
 
 impl Mask {
-    pub fn new(array: &UnionArray, setting: usize, lent: &Buffers<'_>) -> Result<Mask, Refusal> {
+    pub fn new(view: &View<'_>, setting: usize) -> Result<Mask, Refusal> {
         let mut words = [0u64; 64];
-        let r = masks::at_setting(array, setting, lent, &mut words)?;
+        let r = view.nulls_at(setting, &mut words)?;
         Ok(Mask {
             setting,
-            slots: array.count,
+            slots: view.array.count,
             nulls: r.nulls,
             route: r.route,
             words: r.present.then_some(words),

@@ -6,7 +6,8 @@ use crate::table::Table;
 use crate::texts;
 use array_columns::questions::entry_of;
 use program_kit::lent::{Buffers, BuffersMut};
-use program_kit::{arrays, builders, parts};
+use program_kit::view::View;
+use program_kit::{builders, parts};
 use std::alloc::{AllocError, Global};
 use union_array::UnionArray;
 use union_builder::UnionBuilder;
@@ -131,7 +132,8 @@ impl Session {
     // A slice in the place of the batch.
     fn slice(&mut self, alloc: Global, start: usize, count: usize) -> Result<Answer, Denied> {
         let Batch { array, finished } = self.batch.ok_or(Denied::NoBatch)?;
-        let part = arrays::slice(&array, start, count, &self.memory.lent())?;
+        let lent = &self.memory.lent();
+        let part = View { array, lent }.slice(start, count)?;
         Ok(Answer::Slice(self.show(alloc, part, finished)?))
     }
 
@@ -149,7 +151,11 @@ impl Session {
             Command::Slice { start, count } => self.slice(alloc, *start, *count),
             Command::Mask { setting } => {
                 let batch = self.batch.as_ref().ok_or(Denied::NoBatch)?;
-                let mask = Mask::new(&batch.array, *setting, &self.memory.lent())?;
+                let view = View {
+                    array: batch.array,
+                    lent: &self.memory.lent(),
+                };
+                let mask = Mask::new(&view, *setting)?;
                 Ok(Answer::Mask(mask))
             }
         }

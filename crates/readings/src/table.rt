@@ -6,7 +6,8 @@ use crate::texts::Named;
 use array_columns::Kind;
 use array_columns::questions::entry_of;
 use program_kit::lent::Buffers;
-use program_kit::{arrays, parts};
+use program_kit::parts;
+use program_kit::view::View;
 use std::alloc::Global;
 use std::fmt;
 use union_array::UnionArray;
@@ -29,13 +30,8 @@ pub struct Table {
 }
 
 // The row of slot i.
-fn read_row(
-    alloc: Global,
-    array: &UnionArray,
-    i: usize,
-    lent: &Buffers<'_>,
-) -> Result<Row, Denied> {
-    let v = arrays::value(array, i, lent)?;
+fn read_row(alloc: Global, view: &View<'_>, i: usize) -> Result<Row, Denied> {
+    let v = view.value(i)?;
     let value = if v.missing {
         String::from_str(alloc, "null")?
     } else {
@@ -60,15 +56,19 @@ fn name_width(array: &UnionArray, names: &[u8]) -> usize {
 
 impl Table {
     pub fn new(alloc: Global, array: &UnionArray, lent: &Buffers<'_>) -> Result<Table, Denied> {
+        let view = View {
+            array: *array,
+            lent,
+        };
         let mut rows = Vec::new(alloc);
         // By slot number, which is what an array is asked.
         for i in 0..array.count {
-            rows.push(read_row(alloc, array, i, lent)?)?;
+            rows.push(read_row(alloc, &view, i)?)?;
         }
         Ok(Table {
             rows,
             names: name_width(array, lent.names),
-            mask: Mask::new(array, 10, lent)?,
+            mask: Mask::new(&view, 10)?,
         })
     }
 

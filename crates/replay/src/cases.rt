@@ -85,7 +85,12 @@ impl<'a> Readings<'a> {
     // The name and the kind of reading k.
     pub fn at(&self, k: usize) -> (&[u8], Kind) {
         let [start, size, kind] = self.list.get(k).copied().unwrap_or([0; 3]);
-        let name = parts::part(&self.text, start as usize, size as usize).unwrap_or(&[]);
+        let name = parts::part(
+            parts::first(&self.text, 1024),
+            start as usize,
+            size as usize,
+        )
+        .unwrap_or(&[]);
         (name, kind_of(kind))
     }
 }

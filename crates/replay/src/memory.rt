@@ -4,6 +4,7 @@ ghost use Rattle.std.specs.Prelude.{◌≤◌, length};
 use crate::narrow;
 use crate::numbers::Numbers;
 use program_kit::lent::{Buffers, BuffersMut};
+use program_kit::parts;
 use std::alloc::{AllocError, Global};
 
 // A part of lent memory.
@@ -30,8 +31,8 @@ impl Part {
     }
 }
 
-// How many entries of a part are lent at most.
-const MOST: usize = 65537;
+// How many entries of a part are kept at most: one more than are lent, for a call that is short of one.
+const MOST: usize = 65538;
 
 // A part: how many entries are lent, and the first of them as a list. The rest are like the last of the list, 0 if it has none.
 pub fn entries<T: Copy, F: Fn(u64) -> T>(
@@ -58,9 +59,9 @@ pub struct Memory {
     names: Vec<u8>,
 }
 
-// What is lent of a part: one entry less to a call that is short of it.
-fn but_one<T>(list: &mut [T], short: bool) -> &mut [T] {
-    let n = list.len().saturating_sub(usize::from(short));
+// What is lent of a part: one entry less to a call that is short of it, at most so many.
+fn lent<T>(list: &mut [T], short: bool, most: usize) -> &mut [T] {
+    let n = parts::lent(list.len(), short, most).min(list.len());
     &mut list[..n]
 }
 
@@ -78,11 +79,11 @@ impl Memory {
     // What is lent to a call that is short of a part, or of none.
     pub fn lent(&mut self, short: Option<Part>) -> BuffersMut<'_> {
         BuffersMut {
-            type_ids: but_one(&mut self.type_ids, short == Some(Part::TypeIds)),
-            offsets: but_one(&mut self.offsets, short == Some(Part::Offsets)),
-            values: but_one(&mut self.values, short == Some(Part::Values)),
-            masks: but_one(&mut self.masks, short == Some(Part::Masks)),
-            names: but_one(&mut self.names, short == Some(Part::Names)),
+            type_ids: lent(&mut self.type_ids, short == Some(Part::TypeIds), 65537),
+            offsets: lent(&mut self.offsets, short == Some(Part::Offsets), 65537),
+            values: lent(&mut self.values, short == Some(Part::Values), 65537),
+            masks: lent(&mut self.masks, short == Some(Part::Masks), 1024),
+            names: lent(&mut self.names, short == Some(Part::Names), 4096),
         }
     }
 }

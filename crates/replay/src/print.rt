@@ -1,13 +1,13 @@
 // The lines of the answers, and what each kind of answer tells.
 
 use crate::calls::Call;
-use array_columns::Column;
 use array_columns::kinds::kind_number;
 use array_columns::questions::entry_of;
+use array_columns::{Column, Value};
+use logical_nulls::LogicalNulls;
 use program_kit::lent::Buffers;
 use program_kit::output::Writer;
 use program_kit::parts;
-use program_kit::view::{Nulls, Value};
 use std::fmt::Display;
 use std::io;
 use std::io::Write;
@@ -93,8 +93,8 @@ fn name_at(to: &mut Writer, names: &[u8], start: usize, n: u8) -> io::Result<()>
 pub fn value(to: &mut Writer, v: Value) -> io::Result<()> {
     id(to, v.id)?;
     number(to, kind_number(v.kind))?;
-    flag(to, v.value.is_none())?;
-    number(to, v.value.unwrap_or(0))?;
+    flag(to, v.missing)?;
+    number(to, v.bits)?;
     number(to, v.size)?;
     for (k, b) in v.name.iter().enumerate() {
         if k < v.size as usize || *b != 0 {
@@ -147,9 +147,9 @@ pub fn counts(to: &mut Writer, a: UnionArray) -> io::Result<()> {
 }
 
 // Whether a null mask is present, its null count, its route, and the words lent, as the call left them.
-pub fn nulls(to: &mut Writer, r: Nulls, words: &[u64]) -> io::Result<()> {
-    flag(to, r.null_count.is_some())?;
-    number(to, r.null_count.unwrap_or(0))?;
+pub fn nulls(to: &mut Writer, r: LogicalNulls, words: &[u64]) -> io::Result<()> {
+    flag(to, r.present)?;
+    number(to, r.nulls)?;
     number(to, r.route.number())?;
     for word in words {
         number(to, *word)?;

@@ -2,10 +2,11 @@
 use crate::calls::{Ask, Call, Op};
 use crate::cases::Readings;
 use crate::print;
+use logical_nulls::LogicalNulls;
 use program_kit::builders;
 use program_kit::lent::{BuffersMut, Refusal};
 use program_kit::output::Writer;
-use program_kit::view::{Nulls, View};
+use program_kit::view::View;
 use std::io;
 use union_array::UnionArray;
 use union_builder::UnionBuilder;
@@ -18,7 +19,7 @@ pub struct Subject {
 }
 
 // A null mask, into at most 8 words of ones.
-fn nulls<F: FnOnce(&mut [u64]) -> Result<Nulls, Refusal>>(
+fn nulls<F: FnOnce(&mut [u64]) -> Result<LogicalNulls, Refusal>>(
     to: &mut Writer,
     c: &Call,
     n: usize,
