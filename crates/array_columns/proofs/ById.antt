@@ -2,15 +2,15 @@
 use mathlib.Core.Bool.{Bool, true, false, cond, false≢true}
 use mathlib.Core.Option.{Option, none, some}
 use mathlib.Core.List.{List, [], ◌∷◌}
-use mathlib.Core.Path.{◌≡◌, refl, sym, ap, ◌∙◌}
+use mathlib.Core.Path.{◌≡◌, refl, sym, ap, ◌∙◌, subst}
 use Prim.Native.Nat.{ℕ, zero, suc, ◌+◌, ◌-◌, ◌<◌, ◌≤◌}
 use native.Mathlib.Nat.{not-suc-le-zero, le_of_suc-le-suc}
 use native.Mathlib.Omega.{arith}
 use lib.Dec.{eqb}
 use lib.IntN.{ℤ, pos, negsuc}
-use lib.ListN.{length, get_or, set, take, drop, length-set, drop_of_length-le, replicate}
+use lib.ListN.{length, get_or, set, drop, length-set, drop_of_length-le, replicate}
 use lib.Signed.{mag}
-use lib.Seq.{drop-cons, get_or-take, get_or-set_same, get_or-set_other, length-take-le}
+use lib.Seq.{drop-cons, get_or-set_same, get_or-set_other}
 use borrow.Author.Tests.{le-ltb, ltb-true, ne_eqb, eqb-true, eqb-false}
 use Rattle.bitmap.specs.Bits.{same_id}
 use Rattle.bitmap.proofs.Tables.{both}
@@ -19,34 +19,47 @@ use Rattle.array_columns.specs.Slots.{all, column_of, is_some}
 use Rattle.array_columns.specs.Questions.{valid_id, within, within_child}
 use Rattle.array_columns.specs.Lookup.{or_none}
 use Rattle.array_columns.specs.Pass.{entry_of}
-use Rattle.array_columns.specs.ById.{by_id, slot_table}
+use Rattle.array_columns.specs.ById.{by_id, IsById, slot_table}
 
 -- ---- the table as it is filled, from the last column down
 
+module _ {A : Type 0} (R : ℕ → A → Type 0) (rest : A) (cs : List Column) where
+  -- before the first store
+  pub filled_none : IsById R rest (length cs) (drop (length cs) cs) (replicate 256 rest)
+  filled_none = let l : length cs ≤ length cs = omega arith in rw (drop_of_length-le cs l) refl
+
+  at_place : (i : ℕ) (t : List A) (entry : ℕ) (v : A) → i < length cs → IsById R rest (suc i) (drop (suc i) cs) t
+      → entry ≡ entry_of (get_or cs i no_column).id → R i v → IsById R rest i (drop i cs) (set t entry v)
+  at_place i t entry v l h p r = rw (drop-cons cs i no_column l, p) (t, v, h, r, refl)
+
+  -- one store more
+  pub filled_turn : (j : ℕ) (t : List A) (entry : ℕ) (v : A) → 0 < j → j ≤ length cs → IsById R rest j (drop j cs) t
+      → entry ≡ entry_of (get_or cs (j - 1) no_column).id → R (j - 1) v → IsById R rest (j - 1) (drop (j - 1) cs) (set t entry v)
+  filled_turn j t entry v a b h p r =
+      let s : j ≡ suc (j - 1) = omega arith in
+      at_place (j - 1) t entry v (omega arith) (subst (λ (x : ℕ). IsById R rest x (drop x cs) t) s h) p r
+
 module _ (rest : ℕ) (v : ℕ → Column → ℕ) where
+  -- where R says what the value is
+  pub filled_is : (R : ℕ → ℕ → Type 0) (k : ℕ) (cs : List Column) (t : List ℕ) → ((j x : ℕ) → j < length cs → R (k + j) x → x ≡ v (k + j) (get_or cs j no_column))
+      → IsById R rest k cs t → t ≡ by_id rest v k cs
+  unfolding by_id
+  filled_is R k [] t f h = h
+  filled_is R k (c ∷ cs) t f h =
+      let zero_more : k + 0 ≡ k = omega arith in
+      let head : h.1 ≡ v k c = rw zero_more at (f 0 h.1 (omega arith)) h.3 in
+      h.4
+      ∙ rw (
+        head,
+        filled_is R (suc k) cs h.0
+            (λ j x l r. let more : k + suc j ≡ suc k + j = omega arith in rw more at (f (suc j) x (omega arith)) r)
+            h.2,
+      )
+
   pub table_length : (k : ℕ) (cs : List Column) → length (by_id rest v k cs) ≡ 256
   unfolding by_id
   table_length k [] = refl
   table_length k (c ∷ cs) = length-set (by_id rest v (suc k) cs) (entry_of c.id) (v k c) ∙ table_length (suc k) cs
-
-  -- before the first store
-  pub table_none : (cs : List Column) (f : ℕ) → f ≤ length cs → replicate 256 rest ≡ by_id rest v f (drop f (take f cs))
-  unfolding by_id
-  table_none cs f l =
-      let u = length-take-le f cs l in
-      let b : length (take f cs) ≤ f = omega arith in
-      sym (ap (by_id rest v f) (drop_of_length-le (take f cs) b))
-
-  -- one store more
-  pub table_turn : (cs : List Column) (f j : ℕ) (t : List ℕ) (entry : ℕ) → 0 < j → j ≤ f → f ≤ length cs → t ≡ by_id rest v j (drop j (take f cs))
-      → entry ≡ entry_of (get_or cs (j - 1) no_column).id → set t entry (v (j - 1) (get_or cs (j - 1) no_column)) ≡ by_id rest v (j - 1) (drop (j - 1) (take f cs))
-  unfolding by_id
-  table_turn cs f j t entry a b l e p =
-      let u = length-take-le f cs l in
-      let s : suc (j - 1) ≡ j = omega arith in
-      let d : drop (j - 1) (take f cs) ≡ get_or cs (j - 1) no_column ∷ drop j (take f cs)
-      = drop-cons (take f cs) (j - 1) no_column (omega arith) ∙ rw (s, get_or-take f cs (j - 1) no_column (omega arith)) in
-      rw (d, s, e, p)
 
 -- ---- an entry
 

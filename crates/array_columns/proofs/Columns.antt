@@ -9,6 +9,11 @@ use native.Mathlib.Numerals.{add-one}
 use lib.IntN.{ℤ}
 use lib.ListN.{length, get_or, take}
 use lib.Seq.{take-suc}
+use Rattle.std.specs.List.{find}
+use Rattle.std.specs.Prelude.{Some, None}
+use Rattle.std.specs.Option.{option_map, option_copied}
+use denote.Bor.{Bor}
+use Rattle.std.specs.declared.option.Option as given
 use Rattle.bitmap.specs.Bits.{same_id}
 use Rattle.bitmap.proofs.Ids.{same_id_sym, same_id_eq}
 use Rattle.bitmap.proofs.Tables.{both}
@@ -16,6 +21,7 @@ use Rattle.array_columns.specs.Types.{Column, no_column}
 use Rattle.array_columns.specs.Slots.{all, column_of, is_some}
 use Rattle.array_columns.specs.Questions.{distinct}
 use Rattle.array_columns.specs.Lookup.{or_none}
+use Rattle.array_columns.specs.Pass.{column_told}
 
 -- the first of two columns that is there
 abbrev pub or_else : Option Column → Option Column → Option Column
@@ -52,6 +58,23 @@ column_more (d ∷ cs) c id = by (same_id d.id id) (column_more cs c id)
         → cond b (some d) (column_of (cs ++ (c ∷ [])) id) ≡ or_else (cond b (some d) (column_of cs id)) (cond (same_id c.id id) (some c) none)
     by true e = refl
     by false e = e
+
+-- the first that has it, found by the library
+pub column_found : (cs : List Column) (id : ℤ) (o : given.Option (Bor Column)) (p : given.Option Column) → p ≡ option_copied o
+    → option_map (λ y. y.now) o ≡ find (λ c. same_id c.id id) cs → column_told p ≡ column_of cs id
+column_found cs id o p f e = ap column_told (f ∙ copied o ∙ e) ∙ by cs
+  where
+    copied : (o : given.Option (Bor Column)) → option_copied o ≡ option_map (λ y. y.now) o
+    copied None = refl
+    copied (Some y) = refl
+
+    told : (b : Bool) (c : Column) (o : given.Option Column) (p : Option Column) → column_told o ≡ p → column_told (cond b (Some c) o) ≡ cond b (some c) p
+    told true c o p e = refl
+    told false c o p e = e
+
+    by : (cs : List Column) → column_told (find (λ c. same_id c.id id) cs) ≡ column_of cs id
+    by [] = refl
+    by (c ∷ cs) = told (same_id c.id id) c (find (λ c. same_id c.id id) cs) (column_of cs id) (by cs)
 
 is_some_cond : (b : Bool) (c : Column) → is_some (cond b (some c) none) ≡ b
 is_some_cond true c = refl

@@ -1,21 +1,13 @@
 -- Kinds and their numbers: what holds of ten numbers by computing holds of every kind. Assumes nothing.
 use mathlib.Core.Path.{◌≡◌, refl, sym, ap, ◌∙◌}
 use mathlib.Core.Bool.{Bool, true}
-use Prim.Native.Nat.{ℕ, ◌≤◌, ◌<◌}
+use Prim.Native.Nat.{◌<◌}
 use native.Mathlib.Omega.{arith}
-use lib.Dec.{leb}
-use borrow.Author.Tests.{eqb-true, leb-true, ne_eqb}
+use borrow.Author.Tests.{eqb-true}
 use Rattle.bitmap.specs.Lists.{every}
 use Rattle.bitmap.proofs.Tables.{every_at}
-use Rattle.array_columns.specs.Types.{Kind, Int8, Int16, Int32, Int64, UInt8, UInt16, UInt32, UInt64, Float32, Float64, kind_number, same_kind, width_of}
+use Rattle.array_columns.specs.Types.{Kind, Int8, Int16, Int32, Int64, UInt8, UInt16, UInt32, UInt64, Float32, Float64, kind_number, same_kind}
 use Rattle.array_columns.specs.Numbers.{kind_from}
-
--- a number that is none of 1 to 9 is read as Int8
-pub kind_else : (n : ℕ)
-    → (n ≡ 1 → ⊥) → (n ≡ 2 → ⊥) → (n ≡ 3 → ⊥) → (n ≡ 4 → ⊥) → (n ≡ 5 → ⊥) → (n ≡ 6 → ⊥) → (n ≡ 7 → ⊥) → (n ≡ 8 → ⊥) → (n ≡ 9 → ⊥)
-    → Int8 ≡ kind_from n
-kind_else n a b c d e f g h i =
-    rw (ne_eqb n 1 a, ne_eqb n 2 b, ne_eqb n 3 c, ne_eqb n 4 d, ne_eqb n 5 e, ne_eqb n 6 f, ne_eqb n 7 g, ne_eqb n 8 h, ne_eqb n 9 i)
 
 -- a kind is the one with its number, which is below 10
 pub record Numbered (k : Kind) : Type 0 where
@@ -40,6 +32,3 @@ every_kind p e k = ap p (sym (numbered k).back) ∙ every_at 10 (λ n. p (kind_f
 
 pub same_kind_lem : (a b : Kind) → same_kind a b ≡ true → a ≡ b
 same_kind_lem a b e = sym (numbered a).back ∙ ap kind_from (eqb-true (kind_number a) (kind_number b) e) ∙ (numbered b).back
-
-pub width_le : (k : Kind) → width_of k ≤ 64
-width_le k = leb-true (width_of k) 64 (every_kind (λ x. leb (width_of x) 64) refl k)

@@ -1,6 +1,5 @@
 -- Laws that belong to no one function.
 pub mod Tests
-pub mod FirstNo
 pub mod Signed
 pub mod Columns
 pub mod KindLaws
@@ -9,4 +8,6 @@ pub mod Accepted
 pub mod Present
 pub mod OnePass
 pub mod ById
+pub mod Memory
 pub mod Reading
+pub mod Numbered

@@ -1,33 +1,21 @@
--- Laws of the one pass: a column more, the first no by the least, and the whole answer.
-use mathlib.Core.Bool.{Bool, true, false, cond, not, ◌&&◌, ◌||◌, or-and_distrib_left}
-use mathlib.Core.Option.{none, some}
+-- Laws of the one pass: what it tells with a column more, and the table of ids seen.
+use mathlib.Core.Bool.{Bool, true, false, not, ◌&&◌, ◌||◌}
 use mathlib.Core.List.{List, [], ◌∷◌, ◌++◌}
-use mathlib.Core.Path.{◌≡◌, refl, sym, ap, ◌∙◌}
-use Prim.Native.Nat.{ℕ, zero, suc, ◌+◌, ◌≤◌, ◌<◌}
+use mathlib.Core.Option.{Option}
+use mathlib.Core.Path.{◌≡◌, refl, sym, ap, ap₂, ◌∙◌}
+use Prim.Native.Nat.{ℕ, zero, suc, ◌+◌, ◌<◌}
 use native.Mathlib.Omega.{arith}
 use lib.Dec.{eqb, ltb, leb}
 use lib.IntN.{ℤ, pos, negsuc}
 use lib.ListN.{get_or, set, length, take, replicate}
 use lib.Seq.{get_or-set_same, get_or-set_other}
-use borrow.Author.Tests.{lt-ltb, le-ltb, eq-eqb, ne_eqb, eqb-true, eqb-false, ltb-true}
+use borrow.Author.Tests.{ne_eqb, eqb-true, eqb-false, ltb-true}
 use Rattle.bitmap.specs.Bits.{same_id}
-use Rattle.array_columns.specs.Types.{Column, Amounts, no_column}
+use Rattle.array_columns.specs.Types.{Layout, Sparse, Dense, Column, Amounts, by_layout, no_column}
 use Rattle.array_columns.specs.Slots.{all, column_of, is_some}
 use Rattle.array_columns.specs.Questions.{valid_id, distinct, column_in}
-use Rattle.array_columns.specs.Pass.{entry_of, fault_of, column_fault, columns_fault, least_of, pass_of, first_no}
-use Rattle.array_columns.proofs.FirstNo.{least_row}
-use Rattle.array_columns.proofs.Columns.{or_else, take_more, all_more, column_more, named_more, distinct_more}
-
--- as rows of 1 to 6 in which 2 and 5, asked of no column, are answered yes
-least_fault : (a b c d a' b' c' d' : Bool) → least_of (fault_of a b c d) (fault_of a' b' c' d') ≡ fault_of (a && a') (b && b') (c && c') (d && d')
-least_fault a b c d a' b' c' d' =
-    least_row 7 0 ((a, a') ∷ (true, true) ∷ (b, b') ∷ (c, c') ∷ (true, true) ∷ (d, d') ∷ []) (omega arith)
-
-swap : (a b c d : Bool) → (a && b) && (c && d) ≡ (a && c) && (b && d)
-swap true true c d = refl
-swap true false true d = refl
-swap true false false d = refl
-swap false b c d = refl
+use Rattle.array_columns.specs.Pass.{PassAnswer, entry_of, pass_of}
+use Rattle.array_columns.proofs.Columns.{take_more, all_more, named_more, distinct_more}
 
 -- ---- the table of ids seen
 
@@ -73,100 +61,78 @@ again_is cs seen (negsuc n) h = refl
 
 -- ---- a column more
 
-module _ (lent : Amounts) (n : ℕ) (dense : Bool) (cs : List Column) (c : Column) where
-  pub fault_more : (again : Bool) → valid_id c.id && not again ≡ valid_id c.id && not (is_some (column_of cs c.id))
-      → least_of (columns_fault lent n dense cs) (column_fault lent n dense again c) ≡ columns_fault lent n dense (cs ++ (c ∷ []))
-  unfolding columns_fault column_fault
-  fault_more again e =
-      let valid : Column → Bool = λ c. valid_id c.id in
-      let short : Column → Bool = λ c. leb c.slots 65536 in
-      let equal : Column → Bool = λ c. eqb c.slots n in
+swap : (a b c d : Bool) → (a && b) && (c && d) ≡ (a && c) && (b && d)
+swap true true c d = refl
+swap true false true d = refl
+swap true false false d = refl
+swap false b c d = refl
+
+-- what is asked of each column
+pub record Asked : Type 0 where
+  pub ids : Bool
+  pub parts : Bool
+  pub counts : Bool
+  pub slots : Bool
+
+abbrev pub asked : PassAnswer → Asked
+asked a = record { ids = a.ids; parts = a.parts; counts = a.counts; slots = a.slots }
+
+-- of a list of columns
+abbrev pub asked_of : Amounts → Layout → ℕ → List Column → Asked
+asked_of lent layout n cs = asked (pass_of lent layout n (pos 0) cs)
+
+-- and of one column more; `again`: one before it has its id
+abbrev pub with_one : Amounts → Layout → ℕ → Asked → Bool → Column → Asked
+with_one lent layout n a again c = record {
+  ids = a.ids && (valid_id c.id && not again);
+  parts = a.parts && column_in lent c;
+  counts = a.counts && leb c.slots 65536;
+  slots = a.slots && by_layout layout (eqb c.slots n) true;
+}
+
+module _ (lent : Amounts) (n : ℕ) where
+  pub asked_none : (layout : Layout) → record { ids = true; parts = true; counts = true; slots = true } ≡ asked_of lent layout n []
+  unfolding pass_of
+  asked_none Sparse = refl
+  asked_none Dense = refl
+
+  pub asked_more : (layout : Layout) (cs : List Column) (c : Column) (seen : List Bool) (a : Asked) → Seen cs seen → a ≡ asked_of lent layout n cs
+      → with_one lent layout n a (get_or seen (entry_of c.id) false) c ≡ asked_of lent layout n (cs ++ (c ∷ []))
+  unfolding pass_of
+  asked_more layout cs c seen a s e =
       rw (
         e,
-        all_more valid cs c,
+        again_is cs seen c.id s,
+        all_more (λ c. valid_id c.id) cs c,
         distinct_more cs c,
         all_more (column_in lent) cs c,
-        all_more short cs c,
-        all_more equal cs c,
-        ← swap (all valid cs) (distinct cs) (valid c) (not (is_some (column_of cs c.id))),
-        or-and_distrib_left dense (all equal cs) (equal c),
+        all_more (λ c. leb c.slots 65536) cs c,
+        all_more (λ c. eqb c.slots n) cs c,
+        swap (all (λ c. valid_id c.id) cs) (distinct cs) (valid_id c.id) (not (is_some (column_of cs c.id))),
+        by layout,
       )
-      (least_fault (all valid cs && distinct cs) (all (column_in lent) cs) (all short cs) (dense || all equal cs)
-      (valid c && not (is_some (column_of cs c.id))) (column_in lent c) (short c) (dense || equal c))
-
-pub no_fault : (lent : Amounts) (n : ℕ) (dense : Bool) → 7 ≡ columns_fault lent n dense []
-unfolding columns_fault
-no_fault lent n true = refl
-no_fault lent n false = refl
-
--- the place of the column with an id, f if there is none
-abbrev pub Placed : List Column → ℤ → ℕ → ℕ → ℕ → Type 0
-Placed cs id f j at = (at ≤ f) × (column_of (take j cs) id ≡ cond (ltb at f) (some (get_or cs at no_column)) none)
-
-module _ (cs : List Column) (id : ℤ) (f j at : ℕ) (l : j < f) (k : j < length cs) where
-  abbrev has : Bool
-  has = same_id (get_or cs j no_column).id id
-
-  more : column_of (take (j + 1) cs) id ≡ or_else (column_of (take j cs) id) (cond has (some (get_or cs j no_column)) none)
-  more = rw (take_more cs j k) (column_more (take j cs) (get_or cs j no_column) id)
-
-  pub placed_more : Placed cs id f j at → Placed cs id f (j + 1) (cond (eqb at f && has) j at)
-  placed_more p = by (eqb at f) refl has refl
     where
-      by : (t : Bool) → eqb at f ≡ t → (s : Bool) → has ≡ s → Placed cs id f (j + 1) (cond (t && s) j at)
-      by true e true q =
-          let z = eqb-true at f e in
-          (omega arith, rw (more, p.1, le-ltb at f (omega arith), q, lt-ltb j f l))
-      by true e false q =
-          let z = eqb-true at f e in
-          (omega arith, rw (more, p.1, le-ltb at f (omega arith), q))
-      by false e s q =
-          let z = eqb-false at f e in
-          let b : at < f = omega arith in
-          (omega arith, rw (more, p.1, lt-ltb at f b))
+      by : (l : Layout) → by_layout l (all (λ c. eqb c.slots n) cs) true && by_layout l (eqb c.slots n) true ≡ by_layout l (all (λ c. eqb c.slots n) cs && eqb c.slots n) true
+      by Sparse = refl
+      by Dense = refl
 
 -- ---- one turn of the pass
 
-module _ (cs : List Column) (j : ℕ) (k : j < length cs) where
+module _ (cs : List Column) (j : ℕ) (l : j < length cs) (seen : List Bool) (s : Seen (take j cs) seen) where
   abbrev col : Column
   col = get_or cs j no_column
 
-  pub fault_turn : (lent : Amounts) (n : ℕ) (dense : Bool) (seen : List Bool) (entry least fault next : ℕ) → Seen (take j cs) seen → entry ≡ entry_of col.id
-      → least ≡ columns_fault lent n dense (take j cs) → fault ≡ column_fault lent n dense (get_or seen entry false) col → next ≡ least_of least fault
-      → next ≡ columns_fault lent n dense (take (j + 1) cs)
-  fault_turn lent n dense seen entry least fault next s e p q r =
-      r
-      ∙ rw (p, q, e, take_more cs j k)
-      (fault_more lent n dense (take j cs) col (get_or seen (entry_of col.id) false) (again_is (take j cs) seen col.id s))
+  pub seen_turn : (entry : ℕ) → entry ≡ entry_of col.id → entry < length seen → Seen (take (j + 1) cs) (set seen entry true)
+  seen_turn entry e b = rw (e, take_more cs j l) (seen_more (take j cs) col seen (rw e at b) s)
 
-  pub placed_turn : (id : ℤ) (f at : ℕ) (same : Bool) (next : ℕ) → j < f → Placed cs id f j at → same ≡ same_id col.id id → next ≡ cond (eqb at f && same) j at
-      → Placed cs id f (j + 1) next
-  placed_turn id f at same next l p e r = rw (r, e) (placed_more cs id f j at l k p)
-
-  pub seen_turn : (seen : List Bool) (entry : ℕ) → Seen (take j cs) seen → entry ≡ entry_of col.id → entry < length seen → Seen (take (j + 1) cs) (set seen entry true)
-  seen_turn seen entry s e b = rw (e, take_more cs j k) (seen_more (take j cs) col seen (rw e at b) s)
+  pub asked_turn : (lent : Amounts) (n : ℕ) (layout : Layout) (a b : Asked) → a ≡ asked_of lent layout n (take j cs)
+      → b ≡ with_one lent layout n a (get_or seen (entry_of col.id) false) col → b ≡ asked_of lent layout n (take (j + 1) cs)
+  asked_turn lent n layout a b e f = f ∙ rw (take_more cs j l) (asked_more lent n layout (take j cs) col seen a s e)
 
 -- ---- the end of the pass
 
-module _ (cs : List Column) (id : ℤ) (f at : ℕ) (p : Placed cs id f f at) where
-  pub none_placed : f ≤ at → column_of (take f cs) id ≡ none
-  none_placed l = p.1 ∙ rw (le-ltb at f l)
-
-  pub one_placed : at < f → column_of (take f cs) id ≡ some (get_or cs at no_column)
-  one_placed l = p.1 ∙ rw (lt-ltb at f l)
-
-module _ (lent : Amounts) (n : ℕ) (dense : Bool) (id : ℤ) (cs : List Column) (c : Column) (k : ℕ) where
-  pub pass_none : c ≡ no_column → k ≡ columns_fault lent n dense cs → column_of cs id ≡ none
-      → record { column = c; fault = k; found = false } ≡ pass_of lent n dense id cs
-  pass_none e p q = rw (e, p, q)
-
-  pub pass_one : k ≡ columns_fault lent n dense cs → column_of cs id ≡ some c → record { column = c; fault = k; found = true } ≡ pass_of lent n dense id cs
-  pass_one p q = rw (p, q)
-
-pub first_none : (a b : ℕ) → least_of a b ≡ 7 → 0 ≡ first_no a b
-unfolding first_no
-first_none a b h = rw (eq-eqb (least_of a b) 7 h)
-
-pub first_some : (a b k : ℕ) → k ≡ least_of a b → (k ≡ 7 → ⊥) → k ≡ first_no a b
-unfolding first_no
-first_some a b k e h = e ∙ rw (ne_eqb (least_of a b) 7 (λ z. h (e ∙ z)))
+pub pass_is : (lent : Amounts) (layout : Layout) (n : ℕ) (id : ℤ) (cs : List Column) (a : PassAnswer) → asked a ≡ asked_of lent layout n cs
+    → a.column ≡ column_of cs id → a ≡ pass_of lent layout n id cs
+unfolding pass_of
+pass_is lent layout n id cs a e f =
+    ap₂ (λ (x : Asked) (o : Option Column). record { ids = x.ids; parts = x.parts; counts = x.counts; slots = x.slots; column = o }) e f

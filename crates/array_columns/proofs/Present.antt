@@ -15,6 +15,7 @@ use Rattle.array_columns.specs.Types.{Column, first_bit}
 use Rattle.array_columns.specs.Buffers.{Buffers, only_words, amounts_of}
 use Rattle.array_columns.specs.Slots.{present, presence_chunk, nulls_in}
 use Rattle.array_columns.specs.Questions.{column_in, presence_in}
+use Rattle.array_columns.specs.Accepted.{InChild}
 use Rattle.array_columns.proofs.Accepted.{ColumnAccepted, mask_part}
 use Rattle.array_columns.proofs.Values.{inside}
 
@@ -43,6 +44,11 @@ pub presence_in_lem : (m : Buffers) (c : Column) → column_in (amounts_of m) c 
 unfolding presence_in
 presence_in_lem m c h = (inside (amounts_of m) c h).mask
 
+-- a slot of it lies in its parts
+pub in_child : (c : Column) (m : Buffers) (p : ℕ) → p < c.slots → column_in (amounts_of m) c ≡ true → InChild c m p
+unfolding presence_in
+in_child c m p l h = let x = inside (amounts_of m) c h in record { low = l; values = x.values; presence = x.mask }
+
 -- its mask bits are lent
 pub mask_bits : (m : Buffers) (c : Column) → presence_in m c ≡ true → c.masked ≡ true → first_bit c + c.slots ≤ 64 * length m.masks
 unfolding presence_in
@@ -56,9 +62,9 @@ no_bits m c e = rw e
 -- ---- by the mask
 
 module _ (c : Column) (m : Buffers) where
-  pub by_mask : c.masked ≡ true → (p : ℕ) → bit_at m.masks (64 * c.mask + (c.bit + p)) ≡ present c m p
+  pub by_mask : c.masked ≡ true → (p : ℕ) → bit_at m.masks (64 * c.mask + c.bit + p) ≡ present c m p
   unfolding present
-  by_mask e p = rw (e, ← add_assoc (64 * c.mask) c.bit p)
+  by_mask e p = rw (e)
 
   pub no_mask_lem : c.masked ≡ false → (p : ℕ) → true ≡ present c m p
   unfolding present
@@ -88,7 +94,7 @@ module _ (c : Column) (m : Buffers) where
 
   pub nulls_masked : c.masked ≡ true → nulls_of m.masks (64 * c.mask + c.bit) c.slots ≡ nulls_in c m
   unfolding nulls_of nulls_in
-  nulls_masked e = count_ext c.slots _ _ (λ p h. ap not (ap (bit_at m.masks) (add_assoc (64 * c.mask) c.bit p) ∙ by_mask e p))
+  nulls_masked e = count_ext c.slots _ _ (λ p h. ap not (by_mask e p))
 
   pub nulls_free : c.masked ≡ false → 0 ≡ nulls_in c m
   unfolding nulls_in

@@ -1,21 +1,9 @@
--- Tests that say the same, and the first number of a chain of questions. Assumes nothing.
+-- The first number of a chain of questions. Assumes nothing.
 use mathlib.Core.Bool.{Bool, true, false}
 use mathlib.Core.Path.{◌≡◌, refl}
-use Prim.Native.Nat.{ℕ, zero, suc, ◌≤◌}
-use native.Mathlib.Nat.{not-le_of_lt}
+use Prim.Native.Nat.{ℕ, zero, suc}
 use native.Mathlib.Omega.{arith}
-use lib.Dec.{leb}
-use borrow.Author.Tests.{leb-true, leb-false}
 use Rattle.array_columns.specs.Refusal.{no, ◌then◌, if_yes}
-
-pub leb_same : (a b m n : ℕ) → (a ≤ b → m ≤ n) → (m ≤ n → a ≤ b) → leb a b ≡ leb m n
-leb_same a b m n f g = by (leb a b) refl (leb m n) refl
-  where
-    by : (t : Bool) → leb a b ≡ t → (s : Bool) → leb m n ≡ s → t ≡ s
-    by true e true q = refl
-    by true e false q = absurd (not-le_of_lt (leb-false m n q) (f (leb-true a b e)))
-    by false e true q = absurd (not-le_of_lt (leb-false a b e) (g (leb-true m n q)))
-    by false e false q = refl
 
 -- a number that is not 0 ends the chain
 pub then_left : (a b : ℕ) → (a ≡ 0 → ⊥) → (a then b) ≡ a

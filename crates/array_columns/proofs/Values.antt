@@ -6,17 +6,17 @@ use Prim.Native.Nat.{ℕ, zero, suc, ◌+◌, ◌-◌, ◌≤◌, ◌<◌}
 use native.Mathlib.Nat.{not-suc-le-zero}
 use native.Mathlib.Numerals.{add-one}
 use native.Mathlib.Omega.{arith}
-use lib.ListN.{length, get_or, set, take, drop, replicate, length-drop}
+use lib.ListN.{length, get_or, set, take, drop, replicate}
 use lib.Seq.{take-suc, set_at, length-take-le, take-append-add}
 use lib.Dec.{leb}
 use borrow.Author.Tests.{leb-true}
+use Rattle.std.proofs.lemmas.List.{drop-replicate}
 use Rattle.bitmap.proofs.Tables.{both}
 use Rattle.array_columns.specs.Types.{Column, Amounts}
-use Rattle.array_columns.specs.Buffers.{Buffers, buffers_of, only_words, amounts_of}
+use Rattle.array_columns.specs.Buffers.{Buffers, buffers_of, amounts_of}
 use Rattle.array_columns.specs.Slots.{present}
 use Rattle.array_columns.specs.Questions.{part_in, mask_in, column_in}
-use Rattle.array_columns.specs.Lookup.{Value, padded, column_value}
-use Rattle.array_columns.specs.Accepted.{SlotValue, slot_value_of}
+use Rattle.array_columns.specs.Lookup.{padded, column_value}
 
 -- ---- a list that is filled from the front
 
@@ -40,11 +40,9 @@ padded_is name h =
     sym (ap (λ (n : ℕ). take n (name ++ replicate 32 0)) e ∙ take-append-add name (replicate 32 0) (32 - length name)
     ∙ ap (λ (l : List ℕ). name ++ l) (take_replicate (32 - length name) 32 0 (omega arith)))
 
-pub name_is : (names : List ℕ) (start size : ℕ) → size ≤ 32 → start + size ≤ length names
-    → take size (drop start names) ++ replicate (32 - size) 0 ≡ padded (take size (drop start names))
-name_is names start size h l =
-    let e : length (take size (drop start names)) ≡ size = length-take-le size (drop start names) (simp length-drop (omega arith)) in
-    rw e at (padded_is (take size (drop start names)) (rw e h))
+-- the same, written over the first of 32 zeros
+pub padded_over : (name copied : List ℕ) → copied ≡ name → length name ≤ 32 → copied ++ drop (length name) (replicate 32 0) ≡ padded name
+padded_over name copied e h = rw (e, drop-replicate {X = ℕ} (length name) 32 0) (padded_is name h)
 
 -- ---- a column whose parts lie in lent memory
 
@@ -67,13 +65,14 @@ inside lent c h =
       mask = d.1;
     }
 
--- ---- a child's slot
+-- its name, in the names lent
+pub name_short : (m : Buffers) (c : Column) → column_in (amounts_of m) c ≡ true → c.size ≤ 32
+name_short m c h = (inside (amounts_of m) c h).short
 
--- its value, and the child's id, name and kind
-pub value_as : (c : Column) (m : Buffers) (p : ℕ) (v : SlotValue) (name : List ℕ) → v ≡ slot_value_of c (only_words m.values m.masks) p → name ≡ padded (take c.size (drop c.name m.names))
-    → ◌≡◌ {A = Value} (record { bits = v.bits; name = name; size = c.size; refusal = 0; id = c.id; kind = c.kind; missing = v.missing }) (column_value c m p)
-unfolding column_value slot_value_of present
-value_as c m p v name e f = rw (e, f)
+pub name_in : (m : Buffers) (c : Column) → column_in (amounts_of m) c ≡ true → c.name + c.size ≤ length m.names
+name_in m c h = (inside (amounts_of m) c h).name
+
+-- ---- a child's slot
 
 -- type ids and offsets do not matter to a child's slot
 pub value_parts : (c : Column) (m : Buffers) (p : ℕ) → column_value c (buffers_of [] [] m.values m.masks m.names) p ≡ column_value c m p

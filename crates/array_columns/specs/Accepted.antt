@@ -4,7 +4,7 @@ use Rattle.array_columns.specs.Types.{Column}
 use Rattle.array_columns.specs.Buffers.{Buffers}
 use Rattle.array_columns.specs.Questions.{presence_in}
 use Rattle.array_columns.specs.Lookup.{column_value}
-pub use Rattle.array_columns.specs.declared.SlotValue.{SlotValue}
+pub use Rattle.array_columns.specs.Lookup.{SlotValue, slot_told}
 
 -- slot p of a child lies in its parts
 pub record InChild (c : Column) (m : Buffers) (p : ℕ) : Type 0 where

@@ -1,5 +1,5 @@
 -- A table with an entry for each type id: 256 of them, and an id below 0 has the last.
-use Rattle.std.specs.Prelude.{List, [], ◌∷◌, ℕ, suc, set, replicate}
+use Rattle.std.specs.Prelude.{List, [], ◌∷◌, ◌≡◌, ℕ, suc, set, replicate}
 use Rattle.array_columns.specs.Types.{Column}
 use Rattle.array_columns.specs.Pass.{entry_of}
 
@@ -7,6 +7,11 @@ use Rattle.array_columns.specs.Pass.{entry_of}
 unfoldable pub by_id : ℕ → (ℕ → Column → ℕ) → ℕ → List Column → List ℕ
 by_id rest v k [] = replicate 256 rest
 by_id rest v k (c ∷ cs) = set (by_id rest v (suc k) cs) (entry_of c.id) (v k c)
+
+-- the same of any values, each of which meets R at its column's place
+abbrev pub IsById : {A : Type 0} → (ℕ → A → Type 0) → A → ℕ → List Column → List A → Type 0
+IsById R rest k [] t = t ≡ replicate 256 rest
+IsById {A = A} R rest k (c ∷ cs) t = (below : List A) × (v : A) × IsById R rest (suc k) cs below × R k v × (t ≡ set below (entry_of c.id) v)
 
 -- the places of the columns, 128 for no column
 abbrev pub place_table : List Column → List ℕ

@@ -1,6 +1,7 @@
 -- Kinds, layouts and flags as numbers, as runs and C callers hand them over. `kind_number` is in Types.antt.
-use Rattle.std.specs.Prelude.{Bool, cond, ℕ, eqb, ltb}
+use Rattle.std.specs.Prelude.{Bool, cond, ℕ, eqb, ltb, Result, Ok, Err}
 use Rattle.array_columns.specs.Types.{Kind, Int8, Int16, Int32, Int64, UInt8, UInt16, UInt32, UInt64, Float32, Float64, Layout, Sparse, Dense, by_layout}
+use Rattle.array_columns.specs.Refusal.{Refusal, UnknownNumber}
 
 -- the kind with the number (`kind_number` is the way back)
 abbrev pub kind_from : ℕ → Kind
@@ -11,6 +12,10 @@ kind_from n =
 -- the number names a kind
 abbrev pub is_kind : ℕ → Bool
 is_kind n = ltb n 10
+
+-- that kind, or the refusal of a number that names none
+abbrev pub kind_named : ℕ → Result Kind Refusal
+kind_named n = cond (is_kind n) (Ok (kind_from n)) (Err UnknownNumber)
 
 -- the layout with the number: "For a layout 0 is sparse", 1 is dense
 abbrev pub layout_from : ℕ → Layout

@@ -1,102 +1,49 @@
 // A child's slot by value: its value's low bits, and its name.
-ghost use Rattle.std.specs.Prelude.{◌≡◌, true, [], ◌+◌, ◌≤◌, ◌<◌, length, take, drop};
-ghost use Rattle.array_columns.specs.Types.{width_of, low_bits};
-ghost use Rattle.array_columns.specs.Buffers.{buffers_of, only_words, amounts_of};
+ghost use Rattle.std.specs.Prelude.{◌≡◌, true, ◌≤◌, ◌<◌, length};
+ghost use Rattle.array_columns.specs.Buffers.{amounts_of};
 ghost use Rattle.array_columns.specs.Questions.{column_in};
-ghost use Rattle.array_columns.specs.Lookup.{padded, column_value, no_value};
+ghost use Rattle.array_columns.specs.Lookup.{padded, column_value, accepted_value, slot_told};
 ghost use Rattle.array_columns.specs.Accepted.{InChild, slot_value_of};
 
-use crate::{Column, Kind, SlotValue, Value, presence};
+use crate::{Buffers, Column, Value};
 
-// The bits of a value of a kind.
-pub fn width(k: Kind) -> usize
-    ensures { result ≡ width_of k }
-{
-    match k {
-        Kind::Int8 => 8,
-        Kind::Int16 => 16,
-        Kind::Int32 => 32,
-        Kind::Int64 => 64,
-        Kind::UInt8 => 8,
-        Kind::UInt16 => 16,
-        Kind::UInt32 => 32,
-        Kind::UInt64 => 64,
-        Kind::Float32 => 32,
-        Kind::Float64 => 64,
-    }
-}
-
-// A word's value of a kind: its low bits, zeros above them.
-pub fn low_bits(x: u64, k: Kind) -> u64
-    ensures { result ≡ low_bits (width_of k) x }
-{
-    bitmap::low(x, width(k))
-}
-
-// A name's bytes, with zeros after it.
-fn padded_name(names: &[u8], start: usize, size: usize) -> [u8; 32]
-    requires { (size ≤ 32) × (start + size ≤ length names.now) }
-    ensures { result ≡ padded (take size (drop start names.now)) }
+// A name's bytes, with zeros after it. That a name has at most 32 is said where it is copied: a struct for one would serve one call.
+#[tactic(auto, using(crate::proofs::Values::padded_over))]
+fn padded(name: &[u8]) -> [u8; 32]
+    requires { length name.now ≤ 32 }
+    ensures { result ≡ padded name.now }
 {
     let mut out = [0u8; 32];
-    let mut i: usize = 0;
-    while i < size {
-        let at = start + i;
-        out[i] = names[at];
-        i += 1;
-    }
+    out[..name.len()].copy_from_slice(name);
     out
 }
 
-// Slot p of a child: its value, and whether it is missing.
-pub fn slot_value(c: Column, p: usize, values: &[u64], masks: &[u64]) -> SlotValue
-    requires { InChild c (only_words values.now masks.now) p }
-    ensures { result ≡ slot_value_of c (only_words values.now masks.now) p }
-{
-    if presence::is_present(c, values, masks, p) {
-        let at = c.values + p;
-        let kind = c.kind;
-        return SlotValue {
-            bits: low_bits(values[at], kind),
-            missing: false,
-        };
+impl Column {
+    // Slot p of the child: its value, none if it is missing.
+    #[tactic(auto, using(crate::proofs::Reading::slot_present, crate::proofs::Reading::slot_missing))]
+    pub fn slot_value(&self, lent: &Buffers, p: usize) -> Option<u64>
+        requires { InChild self.now lent.now p }
+        ensures { slot_told result ≡ slot_value_of self.now lent.now p }
+    {
+        if !self.is_present(lent, p) {
+            return None;
+        }
+        let values = lent.values;
+        Some(self.kind.low_bits(values[self.values + p]))
     }
-    SlotValue {
-        bits: 0,
-        missing: true,
-    }
-}
 
-// Slot p of a child, with the child's id, name and kind.
-pub fn column_value(c: Column, p: usize, values: &[u64], masks: &[u64], names: &[u8]) -> Value
-    requires { (p < c.slots) × (column_in (amounts_of (buffers_of [] [] values.now masks.now names.now)) c ≡ true) }
-    ensures { result ≡ column_value c (buffers_of [] [] values.now masks.now names.now) p }
-{
-    let name = padded_name(names, c.name, c.size as usize);
-    let kind = c.kind;
-    let v = slot_value(c, p, values, masks);
-    Value {
-        bits: v.bits,
-        name: name,
-        size: c.size,
-        refusal: 0,
-        id: c.id,
-        kind: kind,
-        missing: v.missing,
-    }
-}
-
-// A refused lookup's answer.
-pub fn no_value(refusal: u8) -> Value
-    ensures { result ≡ no_value refusal }
-{
-    Value {
-        bits: 0,
-        name: [0u8; 32],
-        size: 0,
-        refusal: refusal,
-        id: 0,
-        kind: Kind::Int8,
-        missing: false,
+    // Slot p of the child, with the child's id, name and kind.
+    #[tactic(auto, using(crate::proofs::Values::name_in), unfolding(crate::specs::Accepted::slot_value_of, crate::specs::Lookup::column_value))]
+    pub fn value(&self, lent: &Buffers, p: usize) -> Value
+        requires { (p < self.now.slots) × (column_in (amounts_of lent.now) self.now ≡ true) }
+        ensures { accepted_value result ≡ column_value self.now lent.now p }
+    {
+        Value {
+            value: self.slot_value(lent, p),
+            name: padded(&lent.names[self.name..][..self.size as usize]),
+            size: self.size,
+            id: self.id,
+            kind: self.kind,
+        }
     }
 }

@@ -1,42 +1,64 @@
-// Presence of a child's slots: nothing else reads a child's mask.
+// Presence of a child's slots: nothing else reads a child's mask. Each makes its mask: in a function that makes it for all three, the
+// bound on its bits was not proved. That what is read lies in the memory lent is of a column and a memory, which no struct holds together.
 ghost use Rattle.std.specs.Prelude.{◌≡◌, true, ◌*◌, ◌≤◌, ◌<◌};
-ghost use Rattle.bitmap.specs.Bits.{null_count_of};
-ghost use Rattle.array_columns.specs.Buffers.{only_words};
 ghost use Rattle.array_columns.specs.Slots.{present, presence_chunk, nulls_in};
 ghost use Rattle.array_columns.specs.Questions.{presence_in};
 
-use crate::Column;
-use bitmap::NullCount;
+use crate::{Buffers, Column};
+use bitmap::Mask;
 
-// Whether slot p of a child is present.
-pub fn is_present(c: Column, values: &[u64], masks: &[u64], p: usize) -> bool
-    requires { (p < c.slots) × (presence_in (only_words values.now masks.now) c ≡ true) }
-    ensures { result ≡ present c (only_words values.now masks.now) p }
-{
-    if c.masked {
-        return bitmap::get_bit(masks, c.mask, c.bit as usize + p);
+impl Column {
+    // Whether slot p of the child is present.
+    #[tactic(auto, using(crate::proofs::Present::mask_bits, crate::proofs::Present::by_mask, crate::proofs::Present::no_mask_lem))]
+    pub fn is_present(&self, lent: &Buffers, p: usize) -> bool
+        requires { (p < self.now.slots) × (presence_in lent.now self.now ≡ true) }
+        ensures { result ≡ present self.now lent.now p }
+    {
+        if !self.masked {
+            return true;
+        }
+        let mask = Mask {
+            words: lent.masks,
+            word: self.mask,
+            bit: self.bit as usize,
+            len: self.slots as usize,
+        };
+        mask.get(p)
     }
-    true
-}
 
-// Chunk k of the first `len` slots of a child.
-pub fn presence_chunk(c: Column, values: &[u64], masks: &[u64], len: usize, k: usize) -> u64
-    requires { (64 * k < len) × (len ≤ c.slots) × (presence_in (only_words values.now masks.now) c ≡ true) }
-    ensures { result ≡ presence_chunk c (only_words values.now masks.now) len k }
-{
-    if c.masked {
-        return bitmap::chunk(masks, c.mask, c.bit as usize, len, k);
+    // Chunk k of the first `len` slots of the child.
+    #[tactic(auto, using(crate::proofs::Present::mask_bits, crate::proofs::Present::chunk_masked, crate::proofs::Present::chunk_free))]
+    pub fn presence_chunk(&self, lent: &Buffers, len: usize, k: usize) -> u64
+        requires { (64 * k < len) × (len ≤ self.now.slots) × (presence_in lent.now self.now ≡ true) }
+        ensures { result ≡ presence_chunk self.now lent.now len k }
+    {
+        if !self.masked {
+            return bitmap::low(u64::MAX, bitmap::span(len - 64 * k));
+        }
+        let mask = Mask {
+            words: lent.masks,
+            word: self.mask,
+            bit: self.bit as usize,
+            len,
+        };
+        mask.chunk(k)
     }
-    bitmap::low(0xffff_ffff_ffff_ffff, bitmap::span(len - 64 * k))
-}
 
-// How many slots of a child are null.
-pub fn null_count(c: Column, values: &[u64], masks: &[u64]) -> NullCount
-    requires { presence_in (only_words values.now masks.now) c ≡ true }
-    ensures { result ≡ null_count_of (nulls_in c (only_words values.now masks.now)) }
-{
-    if c.masked {
-        return bitmap::null_count(masks, c.mask, c.bit as usize, c.slots as usize);
+    // How many slots of the child are null.
+    #[tactic(auto, using(crate::proofs::Present::mask_bits, crate::proofs::Present::nulls_masked, crate::proofs::Present::nulls_free))]
+    pub fn null_count(&self, lent: &Buffers) -> usize
+        requires { presence_in lent.now self.now ≡ true }
+        ensures { result ≡ nulls_in self.now lent.now }
+    {
+        if !self.masked {
+            return 0;
+        }
+        let mask = Mask {
+            words: lent.masks,
+            word: self.mask,
+            bit: self.bit as usize,
+            len: self.slots as usize,
+        };
+        mask.null_count()
     }
-    bitmap::empty_count()
 }

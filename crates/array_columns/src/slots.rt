@@ -1,26 +1,40 @@
-// What code that reads the slots of an accepted array calls: the places of its columns by id, and a slot's slot in its child.
-ghost use Rattle.std.specs.Prelude.{◌≡◌, ◌+◌, ◌<◌, ◌≤◌, T, pos, nat_abs, length, get_or, take};
+// What code that reads the slots of an accepted array calls: tables of its columns by id, and a slot's slot in its child.
+ghost use Rattle.std.specs.Prelude.{◌≡◌, ℕ, ◌+◌, ◌<◌, ◌≤◌, T, pos, nat_abs, length, get_or};
 ghost use Rattle.std.specs.Int.Signed.{non_neg};
 ghost use Rattle.array_columns.specs.Types.{Dense, by_layout};
-ghost use Rattle.array_columns.specs.ById.{place_table, slot_table};
+ghost use Rattle.array_columns.specs.ById.{IsById, place_table, slot_table};
 ghost use Rattle.array_columns.specs.Questions.{within};
 
 use crate::questions::entry_of;
 use crate::{Column, Layout};
 
-// The places of the first `fields` columns, by their ids; 128 where no column has the id.
-pub fn places_by_id(columns: [Column; 128], fields: usize) -> [u8; 256]
-    requires { fields ≤ 128 }
-    ensures { result ≡ place_table (take fields columns) }
+// What `value` gives of each column's place, by the column's id; `rest` where no column has the id. Of equal ids the first counts.
+fn by_id<T: Copy, F: Fn(usize) -> T>(columns: &[Column], rest: T, value: F) -> [T; 256]
+    requires { (j : ℕ) → j < length columns.now → F.pre value j }
+    ensures { IsById (F.post value) rest 0 columns.now result }
 {
-    let mut table = [128u8; 256];
-    let mut j = fields;
-    while 0 < j {
-        j -= 1;
-        let c = columns[j];
-        table[entry_of(c.id)] = j as u8;
+    let mut table = [rest; 256];
+    // By place, which is what `value` takes: of a reversed iterator the invariant has no number to go by.
+    for j in (0..columns.len()).rev() {
+        table[entry_of(columns[j].id)] = value(j);
     }
     table
+}
+
+// The places of the columns, by their ids; 128 where no column has the id. Columns in use are a slice, so that they are at most 128 is
+// said where it matters.
+pub fn places_by_id(columns: &[Column]) -> [u8; 256]
+    requires { length columns.now ≤ 128 }
+    ensures { result ≡ place_table columns.now }
+{
+    by_id(columns, 128, |j| j as u8)
+}
+
+// The slot counts of the columns, by their ids.
+pub fn slots_by_id(columns: &[Column]) -> [u32; 256]
+    ensures { result ≡ slot_table columns.now }
+{
+    by_id(columns, 0, |j| columns[j].slots)
 }
 
 // The slot of its child that slot i is, where the array's offsets start at place `start`.
@@ -38,23 +52,5 @@ pub fn child_slot(layout: Layout, offsets: &[i32], start: usize, i: usize) -> us
 pub fn is_within(x: i32, n: u32) -> bool
     ensures { result ≡ within x n }
 {
-    if x < 0 {
-        return false;
-    }
-    (x as u32) < n
-}
-
-// The slot counts of the first `fields` columns, by their ids.
-pub fn slots_by_id(columns: [Column; 128], fields: usize) -> [u32; 256]
-    requires { fields ≤ 128 }
-    ensures { result ≡ slot_table (take fields columns) }
-{
-    let mut table = [0u32; 256];
-    let mut j = fields;
-    while 0 < j {
-        j -= 1;
-        let c = columns[j];
-        table[entry_of(c.id)] = c.slots;
-    }
-    table
+    0 <= x && (x as u32) < n
 }

@@ -1,67 +1,59 @@
--- A slot's child and its slot in it, by what was looked up and read: each way out. Assumes nothing.
-use mathlib.Core.Path.{◌≡◌, refl, sym, ap, ◌∙◌}
+-- A slot's child and its slot in it, by the child found and what was read: each way out. Assumes nothing.
+use mathlib.Core.Path.{◌≡◌, refl}
 use mathlib.Core.Bool.{true, false, false≢true}
+use mathlib.Core.Option.{Option, none, some}
 use Prim.Native.Nat.{ℕ, zero, suc, ◌≤◌, ◌<◌}
-use native.Mathlib.Omega.{arith}
 use borrow.Author.Tests.{lt-ltb, le-ltb}
-use lib.Dec.{T}
-use lib.IntN.{ℤ, pos, negsuc, nat_abs}
-use lib.Signed.{lt_z, non_neg}
-use Rattle.array_slots.specs.Types.{Layout, Sparse, Dense, no_column, by_layout}
-use Rattle.array_columns.specs.Refusal.{if_yes}
+use lib.IntN.{ℤ, pos, nat_abs}
+use Rattle.array_slots.specs.Types.{Layout, Sparse, Dense, Column, no_column, by_layout}
+use Rattle.array_columns.specs.Refusal.{◌then◌, if_yes}
+use Rattle.array_columns.specs.Slots.{is_some}
 use Rattle.array_columns.specs.Questions.{within}
-use Rattle.array_slots.specs.ChildSlot.{Looked, ChildSlot, no_child_slot, settled_no, settled}
-use Rattle.array_columns.proofs.Tests.{then_left}
+use Rattle.array_columns.specs.Lookup.{or_none}
+use Rattle.array_slots.specs.ChildSlot.{ChildSlot, no_child_slot, settled_no, settled}
 
--- ---- an offset that is within
-
-pub within_sign : (z : ℤ) (n : ℕ) → within z n ≡ true → T (non_neg z)
-within_sign (pos k) n e = tt
-within_sign (negsuc k) n e = absurd (false≢true e)
-
-pub not_below : (z : ℤ) → T (non_neg z) → lt_z z (pos 0) ≡ false
-not_below (pos k) h = le-ltb k 0 (omega arith)
-not_below (negsuc k) h = absurd h
-
--- ---- each way out
-
-module _ (l : Looked) (layout : Layout) (n i : ℕ) (id offset : ℤ) where
-  -- the answer by its number
-  abbrev answer : ℕ → ChildSlot
-  answer r = record {
-    column = if_yes r l.column no_column;
-    slot = if_yes r (by_layout layout i (nat_abs offset)) 0;
-    refusal = r;
-    id = if_yes r id (pos 0);
+module _ (column : Option Column) (layout : Layout) (n i : ℕ) (id offset : ℤ) where
+  -- the whole answer by the number that the lookup gave: 0, and it is `settled`; another, and it is that number with zeros
+  abbrev pub settled_after : ℕ → ChildSlot
+  settled_after r = record {
+    column = if_yes (r then settled_no column layout n i offset) (or_none column) no_column;
+    slot = if_yes (r then settled_no column layout n i offset) (by_layout layout i (nat_abs offset)) 0;
+    refusal = r then settled_no column layout n i offset;
+    id = if_yes (r then settled_no column layout n i offset) id (pos 0);
   }
 
-  refused : (r : ℕ) → (r ≡ 0 → ⊥) → settled_no l layout n i offset ≡ r → no_child_slot r ≡ settled l layout n i id offset
+  pub settled_accepted : settled_after 0 ≡ settled column layout n i id offset
   unfolding settled
-  refused r h e = sym (ap answer e ∙ by r h)
-    where
-      by : (k : ℕ) → (k ≡ 0 → ⊥) → answer k ≡ no_child_slot k
-      by zero g = absurd (g refl)
-      by (suc k) g = refl
+  settled_accepted = refl
 
-  pub settled_first : (l.refusal ≡ 0 → ⊥) → no_child_slot l.refusal ≡ settled l layout n i id offset
-  settled_first h = refused l.refusal h (then_left l.refusal _ h)
+  pub settled_first : (r : ℕ) → (r ≡ 0 → ⊥) → no_child_slot r ≡ settled_after r
+  settled_first zero h = absurd (h refl)
+  settled_first (suc r) h = refl
 
-  pub settled_10 : l.refusal ≡ 0 → n ≤ i → no_child_slot 10 ≡ settled l layout n i id offset
-  settled_10 e h = refused 10 (λ z. omega arith) (rw (e, le-ltb i n h))
-
-  pub settled_7 : l.refusal ≡ 0 → i < n → l.found ≡ false → no_child_slot 7 ≡ settled l layout n i id offset
-  settled_7 e h f = refused 7 (λ z. omega arith) (rw (e, lt-ltb i n h, f))
-
-  pub settled_8 : l.refusal ≡ 0 → i < n → l.found ≡ true → layout ≡ Dense → within offset l.column.slots ≡ false
-      → no_child_slot 8 ≡ settled l layout n i id offset
-  settled_8 e h f d w = refused 8 (λ z. omega arith) (rw (e, lt-ltb i n h, f, d, w))
-
-  pub settled_sparse : l.refusal ≡ 0 → i < n → l.found ≡ true → layout ≡ Sparse
-      → ◌≡◌ {A = ChildSlot} (record { column = l.column; slot = i; refusal = 0; id = id }) (settled l layout n i id offset)
+  -- the slot is refused: by 10, then 7, then 8
+  pub settled_10 : n ≤ i → no_child_slot 10 ≡ settled column layout n i id offset
   unfolding settled
-  settled_sparse e h f d = rw (e, lt-ltb i n h, f, d)
+  settled_10 h = rw (le-ltb i n h)
 
-  pub settled_dense : l.refusal ≡ 0 → i < n → l.found ≡ true → layout ≡ Dense → within offset l.column.slots ≡ true
-      → ◌≡◌ {A = ChildSlot} (record { column = l.column; slot = nat_abs offset; refusal = 0; id = id }) (settled l layout n i id offset)
+  pub settled_7 : i < n → is_some column ≡ false → no_child_slot 7 ≡ settled column layout n i id offset
   unfolding settled
-  settled_dense e h f d w = rw (e, lt-ltb i n h, f, d, w)
+  settled_7 h f = rw (lt-ltb i n h, f)
+
+-- the slot is refused by 8, or it is accepted: slot i in sparse, its offset's in dense
+module _ (layout : Layout) (n i : ℕ) (id offset : ℤ) where
+  pub settled_8 : (column : Option Column) → i < n → is_some column ≡ true → layout ≡ Dense → within offset (or_none column).slots ≡ false
+      → no_child_slot 8 ≡ settled column layout n i id offset
+  unfolding settled
+  settled_8 none h f d w = absurd (false≢true f)
+  settled_8 (some c) h f d w = rw (lt-ltb i n h, d, w)
+
+  pub settled_sparse : (column : Option Column) → i < n → is_some column ≡ true → layout ≡ Sparse
+      → ◌≡◌ {A = ChildSlot} (record { column = or_none column; slot = i; refusal = 0; id = id }) (settled column layout n i id offset)
+  unfolding settled
+  settled_sparse column h f d = rw (lt-ltb i n h, f, d)
+
+  pub settled_dense : (column : Option Column) → i < n → is_some column ≡ true → layout ≡ Dense → within offset (or_none column).slots ≡ true
+      → ◌≡◌ {A = ChildSlot} (record { column = or_none column; slot = nat_abs offset; refusal = 0; id = id }) (settled column layout n i id offset)
+  unfolding settled
+  settled_dense none h f d w = absurd (false≢true f)
+  settled_dense (some c) h f d w = rw (lt-ltb i n h, d, w)

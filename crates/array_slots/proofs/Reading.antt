@@ -1,31 +1,33 @@
 -- What reading an accepted slot goes by: its child, and its slot in it. Assumes nothing.
-use mathlib.Core.Bool.{true, false≢true}
-use mathlib.Core.Option.{Option, none, some}
-use mathlib.Core.List.{List}
-use mathlib.Core.Path.{◌≡◌, refl, sym, ap, ◌∙◌}
-use Prim.Native.Nat.{ℕ, ◌+◌, ◌<◌}
-use native.Mathlib.Omega.{arith}
-use lib.Dec.{T, eqb}
-use lib.IntN.{ℤ, nat_abs}
-use lib.ListN.{length, get_or}
+use Rattle.std.proofs.Common.{◌≡◌, refl, sym, ap, ◌∙◌, Bool, true, false, not, ℕ, ◌+◌, ◌<◌, ◌≤◌, arith, T, eqb, List, ◌++◌, length, get_or, drop, ℤ, pos, negsuc, nat_abs, Some, None}
+use Rattle.std.proofs.Math.Option.{some}
+use Rattle.std.specs.declared.option.Option as given
+use Rattle.std.specs.Option.{is_some, unwrap_or}
+use mir.Val.{bool_byte}
+use Rattle.bitmap.specs.Lists.{retable}
+use Rattle.bitmap.specs.Bits.{digit}
+use Rattle.bitmap.proofs.Tables.{table_ext}
+use mathlib.Core.Bool.{false≢true}
 use lib.Signed.{non_neg, mag}
 use borrow.Author.Tests.{leb-true, eqb-true}
-use Rattle.array_slots.specs.Types.{Layout, Sparse, Dense, Column, Head, no_column, by_layout}
-use Rattle.array_columns.specs.Buffers.{Buffers, only_words}
-use Rattle.array_columns.specs.Questions.{part_in, presence_in, within_child}
-use Rattle.array_columns.specs.Lookup.{or_none}
-use Rattle.array_columns.specs.Pass.{entry_of}
-use Rattle.array_columns.specs.ById.{place_table}
+use Rattle.array_slots.specs.Types.{Layout, Sparse, Dense, Column, Head, by_layout}
+use Rattle.array_columns.specs.Buffers.{Buffers}
+use Rattle.array_columns.specs.Pass.{column_told}
+use Rattle.array_columns.specs.Slots.{column_of}
+use Rattle.array_columns.specs.Slots as slots
+use Rattle.array_columns.specs.Questions.{part_in, presence_in, within}
+use Rattle.array_columns.specs.Lookup.{or_none, SlotValue, slot_told}
 use Rattle.array_columns.specs.Accepted.{InChild, slot_value_of}
 use Rattle.array_slots.specs.Slots.{used, id_at, offset_at, child_at, slot_at, within_at}
-use Rattle.array_slots.specs.Values.{SlotValue, slot_value_at}
-use Rattle.array_slots.specs.Accepted.{Valued, SlotAccepted}
+use Rattle.array_slots.specs.Values.{slot_value_at}
+use Rattle.array_slots.specs.Accepted.{Valued, SlotAccepted, SlotsAccepted}
 use Rattle.array_columns.proofs.Accepted.{some_is, within_abs}
 use Rattle.array_columns.proofs.Columns.{all_found}
-use Rattle.array_columns.proofs.Present.{presence_words}
-use Rattle.array_columns.proofs.Reading.{slot_words}
-use Rattle.array_slots.proofs.Places.{column_some, place_low}
-use Rattle.array_slots.proofs.ChildSlots.{within_sign}
+use Rattle.array_slots.proofs.Parts.{part, part_few, part_table, own_id, passed_id, id_is}
+
+within_sign : (z : ℤ) (n : ℕ) → within z n ≡ true → T (non_neg z)
+within_sign (pos k) n e = tt
+within_sign (negsuc k) n e = absurd (false≢true e)
 
 -- ---- 7 and 8
 
@@ -36,17 +38,18 @@ module _ (h : Head) (columns : List Column) (ids offsets : List ℤ) (i : ℕ) (
   pub child_is : child_at h columns ids i ≡ some child
   child_is = some_is (child_at h columns ids i) s.named
 
+  -- the code's answer is that child
+  pub child_read : (o : given.Option Column) → column_told o ≡ child_at h columns ids i → o ≡ Some child
+  child_read None e = absurd (false≢true (ap slots.is_some e ∙ s.named))
+  child_read (Some c) e = ap Some (ap or_none e)
+
   -- a dense slot's offset is one of its child's slots
   dense_within : h.layout ≡ Dense → within_at h columns ids offsets i ≡ true
   dense_within d = sym (ap (λ (l : Layout). by_layout l true (within_at h columns ids offsets i)) d) ∙ s.fits
 
   -- so it is not below 0
   offset_sign : h.layout ≡ Dense → T (non_neg (offset_at h offsets i))
-  offset_sign d = by (offset_at h offsets i) (child_at h columns ids i) (dense_within d)
-    where
-      by : (z : ℤ) (o : Option Column) → within_child z o ≡ true → T (non_neg z)
-      by z none e = absurd (false≢true e)
-      by z (some c) e = within_sign z c.slots e
+  offset_sign d = within_sign (offset_at h offsets i) child.slots (rw child_is at (dense_within d))
 
   -- the slot is one of its child's, if those of a sparse child are as many as the array's
   pub slot_in : (h.layout ≡ Sparse → child.slots ≡ h.count) → slot_at h offsets i < child.slots
@@ -64,9 +67,6 @@ module _ (h : Head) (columns : List Column) (ids offsets : List ℤ) (i : ℕ) (
 -- ---- an accepted slot
 
 module _ (h : Head) (columns : List Column) (m : Buffers) (i : ℕ) (y : Valued h columns m) (s : SlotAccepted h columns m.ids m.offsets i) where
-  pub id_lent : h.start + i < length m.ids
-  id_lent = omega (arith, y.readable.ids_in, s.low)
-
   -- what `child_slot` asks
   pub slot_lent : h.layout ≡ Dense → (h.offsets_start + i < length m.offsets) × T (non_neg (offset_at h m.offsets i))
   slot_lent d = (omega (arith, y.readable.offsets_in d, s.low), offset_sign h columns m.ids m.offsets i s d)
@@ -82,23 +82,54 @@ module _ (h : Head) (columns : List Column) (m : Buffers) (i : ℕ) (y : Valued 
         presence = all_found (presence_in m) (used h columns) _ c y.presence f;
       }
 
-  -- by the table of places, at the entry of the slot's type id
-  module _ (full : length columns ≡ 128) (places : List ℕ) (placed : places ≡ place_table (used h columns)) (byte : mag (id_at h m.ids i) < 128)
-      (entry : ℕ) (here : entry ≡ entry_of (id_at h m.ids i)) where
-    pub place_read : get_or places entry 0 < 128
-    place_read =
-        let r = y.readable in
-        place_low h.fields columns r.few full r.valid places placed (id_at h m.ids i) byte entry here s.named
+-- ---- the type ids of a run
 
-    pub child_read : child_at h columns m.ids i ≡ some (get_or columns (get_or places entry 0) no_column)
-    child_read =
-        let r = y.readable in
-        column_some h.fields columns r.few full r.valid places placed (id_at h m.ids i) byte entry here place_read
+pub ids_told : (h : Head) (columns : List Column) (m : Buffers) (first n : ℕ) → SlotsAccepted h columns m first (first + n) → first + n ≤ h.count → (old : List ℤ)
+    → part (h.start + first) n m.ids ++ drop n old ≡ retable n (λ k. id_at h m.ids (first + k)) old
+unfolding retable
+ids_told h columns m first n a low old =
+    let y = a.valued.readable.ids_in in
+    let e : (k : ℕ) → h.start + first + k ≡ h.start + (first + k) = λ k. omega arith in
+    ap (λ (l : List ℤ). l ++ drop n old)
+    (part_table (h.start + first) n m.ids (omega arith) ∙ table_ext n _ (λ k. id_at h m.ids (first + k)) (λ k l. ap (λ (i : ℕ). get_or m.ids i (pos 0)) (e k)))
 
--- slot i of its child, as the code has them
-module _ (h : Head) (columns : List Column) (m : Buffers) (i : ℕ) (c : Column) (p : ℕ) (ec : child_at h columns m.ids i ≡ some c) (ep : p ≡ slot_at h m.offsets i) where
-  pub read_in : InChild (or_none (child_at h columns m.ids i)) m (slot_at h m.offsets i) → InChild c (only_words m.values m.masks) p
-  read_in t = let t = rw ec at t in record { low = rw ep t.low; values = t.values; presence = sym (presence_words m c) ∙ t.presence }
+-- ---- slot k of a run, as the code reads it
 
-  pub read_is : (v : SlotValue) → v ≡ slot_value_of c (only_words m.values m.masks) p → v ≡ slot_value_at h columns m i
-  read_is v e = e ∙ slot_words c m p ∙ rw (ec, ep)
+missing_is : (v : given.Option ℕ) (b : Bool) → is_some v ≡ not b → bool_byte b ≡ digit (slot_told v).missing
+missing_is None true e = refl
+missing_is None false e = absurd (false≢true e)
+missing_is (Some x) true e = absurd (false≢true (sym e))
+missing_is (Some x) false e = refl
+
+bits_is : (v : given.Option ℕ) → unwrap_or v 0 ≡ (slot_told v).bits
+bits_is None = refl
+bits_is (Some x) = refl
+
+module _ (h : Head) (columns : List Column) (m : Buffers) (first n k : ℕ) (a : SlotsAccepted h columns m first (first + n))
+    (low : k < length (part (h.start + first) n m.ids)) where
+  slot : SlotAccepted h columns m.ids m.offsets (first + k)
+  slot = let l = part_few (h.start + first) n k m.ids low in a.slot (first + k) (omega arith) (omega arith)
+
+  pub offset_lent : h.layout ≡ Dense → (h.offsets_start + (first + k) < length m.offsets) × T (non_neg (offset_at h m.offsets (first + k)))
+  offset_lent = slot_lent h columns m (first + k) a.valued slot
+
+  module _ (byte : mag (own_id h m.ids first n k) < 128) (o : given.Option Column) (e : column_told o ≡ column_of (used h columns) (passed_id h m.ids first n k)) where
+    pub found : o ≡ Some (or_none (child_at h columns m.ids (first + k)))
+    found = child_read h columns m.ids m.offsets (first + k) slot o (e ∙ ap (column_of (used h columns)) (id_is h m.ids first n k low byte))
+
+    module _ (c : Column) (f : o ≡ Some c) (p : ℕ) (g : p ≡ slot_at h m.offsets (first + k)) where
+      child_same : c ≡ or_none (child_at h columns m.ids (first + k))
+      child_same = ap (λ (q : given.Option Column). or_none (column_told q)) (sym f ∙ found)
+
+      pub inside : InChild c m p
+      inside = rw (child_same, g) (in_child h columns m (first + k) a.valued slot)
+
+      module _ (v : given.Option ℕ) (t : slot_told v ≡ slot_value_of c m p) where
+        value_is : slot_told v ≡ slot_value_at h columns m (first + k)
+        value_is = t ∙ rw (child_same, g)
+
+        pub missing_told : (b : Bool) → is_some v ≡ not b → bool_byte b ≡ digit (slot_value_at h columns m (first + k)).missing
+        missing_told b u = missing_is v b u ∙ ap (λ (w : SlotValue). digit w.missing) value_is
+
+        pub bits_told : unwrap_or v 0 ≡ (slot_value_at h columns m (first + k)).bits
+        bits_told = bits_is v ∙ ap (λ (w : SlotValue). w.bits) value_is

@@ -9,7 +9,7 @@ use Rattle.array_columns.specs.Lookup.{or_none}
 use Rattle.array_columns.specs.Numbers.{bad_length}
 use Rattle.array_columns.specs.Accepted.{slot_value_of}
 use Rattle.array_slots.specs.Slots.{id_at, child_at, slot_at, slot_no}
-pub use Rattle.array_columns.specs.declared.SlotValue.{SlotValue}
+pub use Rattle.array_columns.specs.Lookup.{SlotValue}
 
 -- f 0, f 1, .., f (n - 1): the first of them that is not 0
 abbrev pub first_refusal : ℕ → (ℕ → ℕ) → ℕ

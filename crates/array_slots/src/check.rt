@@ -1,83 +1,70 @@
 // Questions 7 and 8 of every slot.
-ghost use Rattle.std.specs.Prelude.{◌≡◌, true, ◌+◌, ◌≤◌, length};
-ghost use Rattle.bitmap.specs.Lists.{every};
-ghost use Rattle.array_slots.specs.Types.{Dense};
-ghost use Rattle.array_columns.specs.Slots.{all};
-ghost use Rattle.array_columns.specs.Questions.{valid_id};
-ghost use Rattle.array_slots.specs.Slots.{used, named_at, within_at};
+ghost use Rattle.std.specs.Prelude.{◌≡◌, true, slice_index};
+ghost use Rattle.std.specs.List.{list_all, zip};
+ghost use Rattle.array_columns.specs.Refusal.{number_of};
+ghost use Rattle.array_columns.specs.Slots.{all, column_of, is_some};
+ghost use Rattle.array_columns.specs.Questions.{valid_id, within};
+ghost use Rattle.array_columns.specs.Pass.{entry_of};
+ghost use Rattle.array_columns.specs.ById.{slot_table};
 ghost use Rattle.array_slots.specs.Check.{Readable, slots_checked};
 
 use array_columns::questions::entry_of;
 use array_columns::slots::{is_within, slots_by_id};
-use array_columns::{Column, Head, Layout};
+use array_columns::{Buffers, Column, Head, Layout, Refusal};
 
-// 7. Does each type id name a field? The first slot that matches no field ends the whole check. An id that was matched before is known.
-fn ids_named(h: Head, columns: [Column; 128], type_ids: &[i8]) -> bool
-    requires { (h.fields ≤ 128) × (h.start + h.count ≤ length type_ids.now) × (all (λ c. valid_id c.id) (used h columns) ≡ true) }
-    ensures { result ≡ every h.count (named_at h columns type_ids.now) }
+// 7. Is each id that of a column? The first slot that matches no field ends the whole check, left by its label as document 01 has it. An id
+// that was matched before is known.
+fn ids_named(columns: &[Column], ids: &[i8]) -> bool
+    requires { all (λ c. valid_id c.id) columns.now ≡ true }
+    ensures { result ≡ list_all (λ id. is_some (column_of columns.now id)) ids.now }
 {
     let mut known = [false; 256];
     let mut ok = true;
-    let mut i: usize = 0;
-    'slots: while i < h.count {
-        let id = type_ids[h.start + i];
-        let entry = entry_of(id);
+    'slots: for id in ids {
+        let entry = entry_of(*id);
         if known[entry] {
-            i += 1;
             continue;
         }
-        let mut j: usize = 0;
-        loop {
-            if j == h.fields {
-                ok = false;
-                break 'slots;
+        for c in columns {
+            if c.id == *id {
+                known[entry] = true;
+                continue 'slots;
             }
-            let c = columns[j];
-            if bitmap::same_id(c.id, id) {
-                break;
-            }
-            j += 1;
         }
-        known[entry] = true;
-        i += 1;
+        ok = false;
+        break 'slots;
     }
     ok
 }
 
 // 8. Of a dense array: each offset at least 0 and below its child's slots?
-fn offsets_within(h: Head, columns: [Column; 128], type_ids: &[i8], offsets: &[i32]) -> bool
-    requires { (Readable h columns type_ids.now offsets.now) × (h.layout ≡ Dense) }
-    ensures { result ≡ every h.count (within_at h columns type_ids.now offsets.now) }
+fn offsets_within(columns: &[Column], ids: &[i8], offsets: &[i32]) -> bool
+    ensures { result ≡ list_all (λ p. within p.1 (slice_index (slot_table columns.now) (entry_of p.0))) (zip ids.now offsets.now) }
 {
-    let table = slots_by_id(columns, h.fields);
-    let mut i: usize = 0;
-    while i < h.count {
-        let entry = entry_of(type_ids[h.start + i]);
-        let slots = table[entry];
-        if !is_within(offsets[h.offsets_start + i], slots) {
-            return false;
-        }
-        i += 1;
-    }
-    true
+    let slots = slots_by_id(columns);
+    ids.iter()
+        .zip(offsets)
+        .all(|(id, offset)| is_within(*offset, slots[entry_of(*id)]))
 }
 
-// 7 and 8 of every slot: the number of the first no, 0 if there is none.
-pub fn check_slots(h: Head, columns: [Column; 128], type_ids: &[i8], offsets: &[i32]) -> u8
-    requires { Readable h columns type_ids.now offsets.now }
-    ensures { result ≡ slots_checked h columns type_ids.now offsets.now }
+// 7 and 8 of every slot: the first no.
+pub fn check_slots(h: Head, columns: &[Column; 128], lent: &Buffers) -> Result<(), Refusal>
+    requires { Readable h columns.now lent.now.ids lent.now.offsets }
+    ensures { number_of result ≡ slots_checked h columns.now lent.now.ids lent.now.offsets }
 {
-    if !ids_named(h, columns, type_ids) {
-        return 7;
+    let columns = &columns[..h.fields];
+    let ids = &lent.type_ids[h.start..h.start + h.count];
+    if !ids_named(columns, ids) {
+        return Err(Refusal::UnknownTypeId);
     }
-    let l = h.layout;
-    match l {
-        Layout::Sparse => 0,
+    match h.layout {
+        Layout::Sparse => Ok(()),
         Layout::Dense => {
-            if !offsets_within(h, columns, type_ids, offsets) {
-                return 8;
+            let offsets = &lent.offsets[h.offsets_start..h.offsets_start + h.count];
+            if !offsets_within(columns, ids, offsets) {
+                return Err(Refusal::OffsetRange);
             }
-            0
+            Ok(())
         }
     }
 }

@@ -2,59 +2,28 @@
 -- Assumes nothing.
 use mathlib.Core.Path.{◌≡◌, refl, sym, ap, ap₂, ◌∙◌}
 use mathlib.Core.List.{List, [], ◌∷◌, ◌++◌, map}
-use Prim.Native.Nat.{ℕ, zero, suc, ◌+◌, ◌-◌, ◌*◌, ◌≤◌, ◌<◌}
+use Prim.Native.Nat.{ℕ, zero, suc, ◌+◌, ◌-◌, ◌≤◌, ◌<◌}
 use native.Mathlib.Nat.{le_of_suc-le-suc, not-suc-le-zero, sub-zero}
 use native.Mathlib.Omega.{arith}
 use lib.ListN.{length, get_or, take, drop, set, replicate}
-use mir.Syntax.{w8}
-use mir.Val.{to_z}
-use mir.Facts.{to_z_pos}
 use Rattle.bitmap.specs.Lists.{table, retable}
-use Rattle.bitmap.specs.Bits.{words_for}
-use Rattle.bitmap.proofs.Tables.{retable_none, retable_at, retable_turn, retable_length}
+use lib.Seq.{length-take-le, get_or-take}
+use Rattle.bitmap.proofs.Tables.{retable_none, retable_at, retable_turn, retable_length, retable_ext}
 use Rattle.array_columns.specs.declared.Column.{Column}
 use Rattle.union_array.specs.declared.UnionArray.{UnionArray}
-use Rattle.array_columns.specs.declared.Layout.{Layout}
-use Rattle.union_array.specs.Types.{by_layout, no_column, relisted}
+use Rattle.array_columns.specs.Types.{no_column}
 use Rattle.union_names.specs.Names.{name_in}
 use Rattle.union_names.specs.Order.{name_by, ordered_ids, order_of, NamesHeld}
 use Rattle.union_names.specs.Listing.{Listed}
-use Rattle.union_names.proofs.Listing.{order_listed, listed_id}
+use Rattle.union_names.proofs.Listing.{order_listed, listed_id, held_front, order_front}
 use Rattle.builder_columns.specs.declared.BuilderColumn.{BuilderColumn}
-use Rattle.builder_columns.specs.Columns.{nth_column}
+use Rattle.builder_columns.specs.Columns.{no_builder_column, nth_column}
 use Rattle.builder_columns.specs.declared.BuilderHead.{BuilderHead}
 use Rattle.batch_description.specs.Description.{described_column, array_of, Named, ordered, assembled, blank_of, named_as, described_by}
 use Rattle.batch_description.specs.Filling.{sizes_of, filled_columns, filled_of, Fillable, Describable}
 use Rattle.batch_description.proofs.ColumnOrder.{ordered_by_id, ordered_ext}
 
 -- ---- the steps
-
-pub blank_is : (d : Column) (l : Layout) (n k o : ℕ) → d ≡ no_column → o ≡ by_layout l 0 n
-    → ◌≡◌ {A = UnionArray} (record {
-      columns = replicate 128 d;
-      fields = k;
-      children = k;
-      start = 0;
-      count = n;
-      offsets_start = 0;
-      offsets_count = o;
-      layout = l;
-    }) (blank_of l n k)
-blank_is d l n k o e f = rw (e, f)
-
-pub column_is : (d : BuilderColumn) (k c w : ℕ) → k < 128 → w ≡ words_for c
-    → ◌≡◌ {A = Column} (record {
-      values = k * c;
-      mask = k * w;
-      name = 32 * k;
-      slots = d.slots;
-      bit = 0;
-      size = d.size;
-      id = to_z w8 k;
-      kind = d.kind;
-      masked = d.masked;
-    }) (described_column d k c)
-column_is d k c w h e = rw (e, to_z_pos w8 h)
 
 module _ (h : BuilderHead) (cs : List BuilderColumn) (order : List ℕ) where
   pub fill_none : blank_of h.layout h.len h.count ≡ filled_of h cs order 0
@@ -64,12 +33,23 @@ module _ (h : BuilderHead) (cs : List BuilderColumn) (order : List ℕ) where
   -- column i is filled in
   pub fill_turn : (i : ℕ) (out : UnionArray) (d : Column) → i < 128 → out ≡ filled_of h cs order i
       → d ≡ described_column (nth_column cs (get_or order i 0)) (get_or order i 0) h.capacity
-      → relisted out (set out.columns i d) ≡ filled_of h cs order (i + 1)
+      → record out { columns = set out.columns i d } ≡ filled_of h cs order (i + 1)
   unfolding filled_columns
   fill_turn i out d l e f =
-      ap (λ (a : UnionArray). relisted a (set a.columns i d)) e
+      ap (λ (a : UnionArray). record a { columns = set a.columns i d }) e
       ∙ ap (array_of h.layout h.len h.count)
       (retable_turn (λ j. described_column (nth_column cs (get_or order j 0)) (get_or order j 0) h.capacity) (replicate 128 no_column) i d f l)
+
+  -- only the ids in use matter
+  pub filled_front : filled_of h cs (take h.count order) h.count ≡ filled_of h cs order h.count
+  unfolding filled_columns
+  filled_front =
+      ap (array_of h.layout h.len h.count)
+      (retable_ext h.count _ _ (replicate 128 no_column)
+      (λ i l. ap (λ (k : ℕ). described_column (nth_column cs k) k h.capacity) (get_or-take h.count order i 0 l)))
+
+  pub fillable_front : Fillable h order → Fillable h (take h.count order)
+  fillable_front f = record { few = f.few; small = f.small; ids = λ i l. rw (get_or-take h.count order i 0 l) (f.ids i l) }
 
 -- ---- the columns in order
 
@@ -118,17 +98,30 @@ module _ (h : BuilderHead) (cs : List BuilderColumn) where
       ap (array_of h.layout h.len h.count)
       (ap₂ (λ (x y : List Column). x ++ y) (table_map column h.count order s.room ∙ in_order) (drop_replicate h.count 128 no_column l))
 
+  -- only the columns in use matter
+  pub sizes_front : h.count ≤ length cs → sizes_of (take h.count cs) (length (take h.count cs)) ≡ sizes_of cs h.count
+  unfolding sizes_of
+  sizes_front few =
+      ap (λ (n : ℕ). retable n (λ k. (nth_column (take h.count cs) k).size) (replicate 128 0)) (length-take-le h.count cs few)
+      ∙ retable_ext h.count _ _ (replicate 128 0) (λ k l. ap (λ (c : BuilderColumn). c.size) (get_or-take h.count cs k no_builder_column l))
+
   sizes_length : h.count ≤ 128 → length (sizes_of cs h.count) ≡ 128
   unfolding sizes_of
   sizes_length l = retable_length h.count (λ j. (nth_column cs j).size) (replicate 128 0) l
 
-  pub held : (names : List ℕ) → Describable h cs (length names) → NamesHeld names (sizes_of cs h.count) h.count
-  held names d = record {
+  pub held : (names : List ℕ) → Describable h cs (length names)
+      → NamesHeld names (take h.count (sizes_of cs h.count)) (length (take h.count (sizes_of cs h.count)))
+  held names d = held_front names (sizes_of cs h.count) h.count (record {
     few = d.few;
     known = omega (arith, sizes_length d.few, d.few);
     lent = d.lent;
     short = λ k l. rw (sizes_at k l) (d.short k l);
-  }
+  })
+
+  -- the order by the names of the columns in use
+  pub order_is : (names order : List ℕ) → h.count ≤ 128 → order ≡ order_of names (take h.count (sizes_of cs h.count)) (length (take h.count (sizes_of cs h.count)))
+      → order ≡ order_of names (sizes_of cs h.count) h.count
+  order_is names order few e = e ∙ order_front names (sizes_of cs h.count) h.count (omega (arith, sizes_length few, few))
 
   pub fillable : (names order : List ℕ) → Describable h cs (length names) → order ≡ order_of names (sizes_of cs h.count) h.count → Fillable h order
   fillable names order d e =

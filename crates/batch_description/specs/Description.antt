@@ -4,7 +4,7 @@ use Rattle.bitmap.specs.Bits.{words_for}
 use Rattle.array_columns.specs.declared.Column.{Column}
 use Rattle.union_array.specs.declared.UnionArray.{UnionArray}
 use Rattle.array_columns.specs.declared.Layout.{Layout}
-use Rattle.union_array.specs.Types.{by_layout, no_column}
+use Rattle.array_columns.specs.Types.{by_layout, no_column}
 use Rattle.union_names.specs.Names.{name_up_to, name_in}
 use Rattle.builder_columns.specs.declared.BuilderColumn.{BuilderColumn}
 use Rattle.builder_columns.specs.Columns.{nth_column}

@@ -3,7 +3,7 @@ use Rattle.std.specs.Prelude.{List, ℕ, ◌*◌, ◌≤◌, ◌<◌, get_or, re
 use Rattle.bitmap.specs.Lists.{retable}
 use Rattle.array_columns.specs.declared.Column.{Column}
 use Rattle.union_array.specs.declared.UnionArray.{UnionArray}
-use Rattle.union_array.specs.Types.{no_column}
+use Rattle.array_columns.specs.Types.{no_column}
 use Rattle.builder_columns.specs.declared.BuilderColumn.{BuilderColumn}
 use Rattle.builder_columns.specs.Columns.{nth_column}
 use Rattle.builder_columns.specs.declared.BuilderHead.{BuilderHead}

@@ -1,7 +1,6 @@
 -- Validity bits in 64-bit words (Format, validity bitmaps; document 01, "Bits below the union"). A text in quotes is 01's.
 use Rattle.std.specs.Prelude.{Bool, true, false, cond, not, ◌&&◌, List, ℕ, zero, suc, ◌+◌, ◌*◌, ◌/◌, ◌%◌, ◌^◌, eqb, ltb, get_or, set, ℤ, pos, negsuc}
 use Rattle.bitmap.specs.Lists.{table, retable}
-pub use Rattle.bitmap.specs.declared.NullCount.{NullCount}
 
 -- a bit as a number
 abbrev pub digit : Bool → ℕ
@@ -37,10 +36,6 @@ chunk_of words s len k = pack 64 (λ j. ltb (64 * k + j) len && bit_at words (s 
 -- "For a mask, its null count is its length less its set bits": its clear bits, for a mask of len bits that starts at bit s
 unfoldable pub nulls_of : List ℕ → ℕ → ℕ → ℕ
 nulls_of words s len = count len (λ i. not (bit_at words (s + i)))
-
--- a null count of n
-abbrev pub null_count_of : ℕ → NullCount
-null_count_of n = record { nulls = n }
 
 -- "Fully null: null count equals length, and length is not 0."
 unfoldable pub is_fully_null : ℕ → ℕ → Bool

@@ -1,29 +1,18 @@
 -- Question 15 but for the columns, and question 16: what their yes tells. Assumes nothing.
-use mathlib.Core.Path.{◌≡◌, refl}
-use mathlib.Core.Bool.{Bool, true, false, ◌&&◌}
+use mathlib.Core.Path.{◌≡◌}
+use mathlib.Core.Bool.{true, ◌&&◌}
 use mathlib.Core.List.{List}
-use Prim.Native.Nat.{ℕ, zero, suc, ◌*◌, ◌≤◌}
+use Prim.Native.Nat.{ℕ, ◌*◌, ◌≤◌}
 use native.Mathlib.Omega.{arith}
-use borrow.Author.Tests.{leb-true, le-leb}
+use borrow.Author.Tests.{leb-true}
 use lib.Dec.{leb}
 use Rattle.bitmap.specs.Bits.{words_for}
 use Rattle.bitmap.proofs.Tables.{both}
 use Rattle.array_columns.specs.declared.Amounts.{Amounts}
-use Rattle.array_columns.specs.Refusal.{no, ◌then◌}
 use Rattle.builder_columns.specs.declared.BuilderColumn.{BuilderColumn}
 use Rattle.builder_columns.specs.declared.BuilderHead.{BuilderHead}
 use Rattle.builder_columns.specs.Finding.{Searchable}
 use Rattle.builder_appends.specs.Questions.{numbers_fit, question16, Numbers, Lent, Open}
-
--- ---- a number that is 0
-
-pub then_zero : (a b : ℕ) → (a then b) ≡ 0 → (a ≡ 0) × (b ≡ 0)
-then_zero zero b e = (refl, e)
-then_zero (suc a) b e = absurd (omega arith)
-
-pub no_zero : (n : ℕ) (q : Bool) → no (suc n) q ≡ 0 → q ≡ true
-no_zero n true e = refl
-no_zero n false e = absurd (omega arith)
 
 -- ---- what a yes tells
 
@@ -55,13 +44,6 @@ lent_yes capacity limit lent h =
       masks = leb-true _ _ h₄.0;
       names = leb-true _ _ h₄.1;
     }
-
--- the last part of question 16, where the others are met
-pub last_16 : (capacity limit w : ℕ) (lent : Amounts) → w ≡ words_for capacity → capacity ≤ lent.ids → capacity ≤ lent.offsets
-    → limit * capacity ≤ lent.values → limit * w ≤ lent.masks → leb (32 * limit) lent.names ≡ question16 capacity limit lent
-unfolding question16
-last_16 capacity limit w lent e h₁ h₂ h₃ h₄ =
-    rw (← e, le-leb _ _ h₁, le-leb _ _ h₂, le-leb _ _ h₃, le-leb _ _ h₄)
 
 -- the names of an open builder can be compared
 pub open_searchable : (h : BuilderHead) (cs : List BuilderColumn) (lent : Amounts) → Open h cs lent → Searchable cs h.count lent.names × (h.len ≤ 65536)

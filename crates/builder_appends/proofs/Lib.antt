@@ -2,4 +2,5 @@
 pub mod Asking
 pub mod Planned
 pub mod Stepping
-pub mod Runs
+pub mod Lengths
+pub mod OneReading

@@ -1,47 +1,46 @@
 -- What an append leaves, accepted or refused. Assumes nothing.
-use mathlib.Core.Path.{◌≡◌, refl, sym, ap, ap₂, ◌∙◌, subst}
-use mathlib.Core.Bool.{Bool, true, false, cond, not}
-use mathlib.Core.Option.{none}
+use mathlib.Core.Path.{◌≡◌, refl, sym, ap, ◌∙◌}
+use mathlib.Core.Bool.{Bool, true, false, not}
+use mathlib.Core.Option.{Option}
 use mathlib.Core.List.{List}
 use Prim.Native.Nat.{ℕ, ◌≤◌, ◌<◌}
 use native.Mathlib.Omega.{arith}
-use lib.Dec.{eqb}
-use lib.ListN.{length}
+use Rattle.std.specs.Prelude.{Some, None, Result, Ok, Err, IfOk}
+use Rattle.std.specs.declared.option.Option as code
+use Rattle.std.specs.Option as core
+use Rattle.std.specs.Bool.{then_some}
 use Rattle.array_columns.specs.declared.Amounts.{Amounts}
 use Rattle.array_columns.specs.declared.Kind.{Kind}
 use Rattle.array_columns.specs.declared.Layout.{Layout}
 use Rattle.array_columns.specs.declared.Layout.TheVariants.{Sparse, Dense}
-use Rattle.union_array.specs.Types.{by_layout}
+use Rattle.array_columns.specs.declared.Refusal.{Refusal}
+use Rattle.array_columns.specs.Types.{by_layout}
+use Rattle.array_columns.specs.Slots.{is_some}
 use Rattle.array_columns.specs.Buffers.{Buffers}
-use Rattle.array_columns.specs.Refusal.{if_yes}
+use Rattle.array_columns.specs.Refusal.{refusal_number}
+use Rattle.array_columns.proofs.Numbered.{refused_ne, if_refused}
 use Rattle.array_columns.proofs.Tests.{refused_is}
 use Rattle.builder_columns.specs.declared.BuilderColumn.{BuilderColumn}
 use Rattle.builder_columns.specs.declared.BuilderHead.{BuilderHead}
 use Rattle.builder_columns.specs.declared.Plan.{Plan}
-use Rattle.builder_columns.specs.Columns.{some_if, is_none, nth_column, grown, grown_by}
-use Rattle.builder_columns.specs.Writing.{written_by}
-use Rattle.builder_appends.specs.Questions.{Open}
-use Rattle.builder_appends.specs.Steps.{Step, accepted_step, refused_step, Steppable, plan_for, stepped, planned, append_by}
-use Rattle.builder_appends.proofs.Planned.{Planned, plan_known}
+use Rattle.builder_columns.specs.Columns.{some_if, given, or_else, nth_column, grown_by}
+use Rattle.builder_columns.specs.Planning.{PlanAnswer, plan_told}
+use Rattle.builder_appends.specs.Steps.{Step, accepted_step, Steppable, plan_for, Stepped, step_refused, stepped, planned, append_by}
+use Rattle.builder_appends.proofs.Planned.{Planned}
 
--- ---- a slot of a row
+-- ---- a value or a null of the code
 
-pub null_there : (here present : Bool) → not (cond here present false) ≡ is_none (cond here (some_if present 0) none)
-null_there true true = refl
-null_there true false = refl
-null_there false present = refl
+pub is_some_given : (o : code.Option ℕ) → core.is_some o ≡ is_some (given o)
+is_some_given None = refl
+is_some_given (Some x) = refl
 
-pub row_is : (c : BuilderColumn) (k id : ℕ) (present t : Bool) → t ≡ cond (eqb id k) present false
-    → grown_by c (not t) ≡ grown c (cond (eqb id k) (some_if present 0) none)
-row_is c k id present t e = ap (grown_by c) (ap not e ∙ null_there (eqb id k) present)
+pub given_then_some : (t : Bool) (x : ℕ) → given (then_some t x) ≡ some_if t x
+given_then_some true x = refl
+given_then_some false x = refl
 
 -- ---- a step can be taken
 
-pub refused_steppable : (h : BuilderHead) (cs : List BuilderColumn) (first : BuilderColumn) (n : ℕ) (present : Bool) → Steppable cs (refused_step h first n present)
-refused_steppable h cs first n present =
-    record { used = omega arith; few = omega arith; slots = λ k l. absurd (omega arith); own = λ l. absurd (omega arith) }
-
-accepted_steppable : (h : BuilderHead) (cs : List BuilderColumn) (p : Plan) (size : ℕ) (lent : Amounts) (present : Bool) → Planned h cs p size lent
+pub accepted_steppable : (h : BuilderHead) (cs : List BuilderColumn) (p : Plan) (size : ℕ) (lent : Amounts) (present : Bool) → Planned h cs p size lent
     → Steppable cs (accepted_step h p present)
 accepted_steppable h cs p size lent present a =
     let few = a.few in
@@ -62,36 +61,26 @@ accepted_steppable h cs p size lent present a =
 
 -- ---- an append by its plan
 
-pub append_known : (n : ℕ) (h : BuilderHead) (cs : List BuilderColumn) (names name : List ℕ) (kind : Kind) (p : Plan) → p ≡ plan_for n h cs names name kind
-    → p.refusal ≡ 0 → (lent : Amounts) → (n ≡ 0 → Open h cs lent) → Planned h cs p (length name) lent
-append_known n h cs names name kind p ep z lent o =
-    subst (λ x. Planned h cs x (length name) lent) (sym ep) (plan_known n h cs lent names name kind o (ap (λ (q : Plan). q.refusal) (sym ep) ∙ z))
+-- the step that a plan leads to can be taken
+pub planned_steppable : (h : BuilderHead) (cs : List BuilderColumn) (p : Result Plan Refusal) (size : ℕ) (lent : Amounts) (name : List ℕ) (v : Option ℕ) (m m' : Buffers)
+    (r : Result Step Refusal) → stepped r m' ≡ planned h (plan_told p) name v m → IfOk p (λ x. Planned h cs x size lent) → IfOk r (Steppable cs)
+unfolding planned
+planned_steppable h cs (Ok p) size lent name v m m' (Err r) e k = cc
+planned_steppable h cs (Ok p) size lent name v m m' (Ok s) e k =
+    let same : s ≡ accepted_step h p (is_some v) = ap (λ (x : Stepped). or_else x.step s) e in
+    rw same (accepted_steppable h cs p size lent (is_some v) k)
+planned_steppable h cs (Err q) size lent name v m m' (Err r) e k = _
+planned_steppable h cs (Err q) size lent name v m m' (Ok s) e k =
+    let z : 0 ≡ refusal_number q = ap (λ (x : Stepped). x.refusal) (e ∙ if_refused q _ _) in
+    absurd (refused_ne q (sym z))
 
-module _ (n : ℕ) (h : BuilderHead) (cs : List BuilderColumn) (name : List ℕ) (kind : Kind) (word : ℕ) (present : Bool) (m : Buffers) (p : Plan) (ep : p ≡ plan_for n h cs m.names name kind) (s : Step) where
-  pub append_refused : (p.refusal ≡ 0 → ⊥) → s ≡ refused_step h (nth_column cs 0) p.refusal present
-      → Steppable cs s × (stepped s m ≡ append_by n h cs name kind word present m)
+-- a refused append: there is no step, only the plan's number, and lent memory is as it was
+module _ (n : ℕ) (h : BuilderHead) (cs : List BuilderColumn) (name : List ℕ) (kind : Kind) (v : Option ℕ) (m : Buffers) where
+  pub refused_is_append : ((plan_for n h cs m.names name kind).refusal ≡ 0 → ⊥) → step_refused (plan_for n h cs m.names name kind).refusal m ≡ append_by n h cs name kind v m
   unfolding append_by planned
-  append_refused z e = (
-    subst (λ x. Steppable cs x) (sym e) (refused_steppable h cs (nth_column cs 0) p.refusal present),
-    ap (λ (x : Step). stepped x m) e
-        ∙ sym (refused_is p.refusal (stepped (accepted_step h p present) (written_by h p m name (some_if present word))) (stepped (refused_step h (nth_column cs 0) p.refusal present) m) z)
-        ∙ ap (λ (q : Plan). planned h cs q name word present m) ep,
-  )
+  refused_is_append z = sym (refused_is (plan_for n h cs m.names name kind).refusal _ _ z)
 
-  pub append_accepted : (p.refusal ≡ 0) → (lent : Amounts) → (n ≡ 0 → Open h cs lent) → s ≡ accepted_step h p present → (after : Buffers)
-      → after ≡ written_by h p m name (some_if present word) → Steppable cs s × (stepped s after ≡ append_by n h cs name kind word present m)
-  unfolding append_by planned
-  append_accepted z lent o e after w = (
-    subst (λ x. Steppable cs x) (sym e) (accepted_steppable h cs p (length name) lent present (append_known n h cs m.names name kind p ep z lent o)),
-    ap₂ stepped e w
-        ∙ sym (ap (λ (k : ℕ). if_yes k (stepped (accepted_step h p present) (written_by h p m name (some_if present word))) (stepped (refused_step h (nth_column cs 0) k present) m)) z)
-        ∙ ap (λ (q : Plan). planned h cs q name word present m) ep,
-  )
-
--- a refused append, for a search: its step is told by the plan alone
-pub refused_is_append : (n : ℕ) (h : BuilderHead) (cs : List BuilderColumn) (name : List ℕ) (kind : Kind) (word : ℕ) (present : Bool) (m : Buffers)
-    → ((plan_for n h cs m.names name kind).refusal ≡ 0 → ⊥)
-    → stepped (refused_step h (nth_column cs 0) (plan_for n h cs m.names name kind).refusal present) m ≡ append_by n h cs name kind word present m
-refused_is_append n h cs name kind word present m z =
-    (append_refused n h cs name kind word present m (plan_for n h cs m.names name kind) refl
-    (refused_step h (nth_column cs 0) (plan_for n h cs m.names name kind).refusal present) z refl).1
+  pub append_refused : (p : PlanAnswer) → p ≡ plan_for n h cs m.names name kind → (s : Result Step Refusal) → (p.refusal ≡ 0 → ⊥) → stepped s m ≡ step_refused p.refusal m
+      → IfOk s (Steppable cs) × (stepped s m ≡ append_by n h cs name kind v m)
+  append_refused p ep (Ok x) z e = absurd (z (sym (ap (λ (q : Stepped). q.refusal) e)))
+  append_refused p ep (Err r) z e = (_, e ∙ rw ep (refused_is_append (rw ep at z)))

@@ -1,5 +1,5 @@
 -- The readings of a run.
-use Rattle.std.specs.Prelude.{Bool, cond, ◌&&◌, List, ℕ, ◌+◌, ◌<◌, eqb, leb, ltb, length}
+use Rattle.std.specs.Prelude.{Bool, ◌&&◌, List, ℕ, ◌+◌, ◌<◌, eqb, leb, length}
 use Rattle.array_columns.specs.Numbers.{is_kind, is_flag}
 
 -- the readings: names in the text, kinds and presence by their numbers, and the values' bits
@@ -17,10 +17,6 @@ readings_of text starts sizes kinds present bits = record { text = text; starts 
 -- the name lies in the text, and the numbers name cases
 unfoldable pub is_reading : ℕ → ℕ → ℕ → ℕ → ℕ → Bool
 is_reading lent start size kind present = leb (start + size) lent && (is_kind kind && is_flag present)
-
--- the length of a name, or 33 of a longer one
-unfoldable pub cut_size : ℕ → ℕ
-cut_size n = cond (ltb n 33) n 33
 
 -- as many of everything as there are names, and room for as many numbers
 unfoldable pub lengths_match : Readings → ℕ → Bool

@@ -1,18 +1,21 @@
 -- One append by a builder's parts: its plan, what it writes, and what it leaves.
-use Rattle.std.specs.Prelude.{◌≡◌, Bool, cond, not, List, ℕ, suc, ◌≤◌, ◌<◌, length, get_or, take, drop}
+use Rattle.std.specs.Prelude.{◌≡◌, Bool, cond, not, List, ℕ, suc, ◌≤◌, ◌<◌, length, get_or, take, drop, Result, Ok, Err}
+use Rattle.std.proofs.Math.Option.{Option, none, some}
 use Rattle.bitmap.specs.Lists.{first_of}
 use Rattle.array_columns.specs.declared.Kind.{Kind}
-use Rattle.union_array.specs.Types.{by_layout, width_of, low_bits}
+use Rattle.array_columns.specs.Types.{by_layout, width_of, low_bits}
+use Rattle.array_columns.specs.Slots.{is_some}
 use Rattle.array_columns.specs.Buffers.{Buffers}
 use Rattle.array_columns.specs.Numbers.{kind_from, flag_from, bad_number}
-use Rattle.array_columns.specs.Refusal.{no, if_yes}
+use Rattle.array_columns.specs.Refusal.{no, if_yes, refusal_number}
+use Rattle.array_columns.specs.declared.Refusal.{Refusal}
 use Rattle.union_names.specs.Names.{question17}
 use Rattle.builder_columns.specs.declared.BuilderColumn.{BuilderColumn}
 use Rattle.builder_columns.specs.declared.BuilderHead.{BuilderHead}
 use Rattle.builder_columns.specs.declared.Plan.{Plan}
 use Rattle.builder_columns.specs.Columns.{some_if, nth_column, has_name, grown_by}
 use Rattle.builder_columns.specs.Finding.{found_in}
-use Rattle.builder_columns.specs.Planning.{plan_if, found_plan}
+use Rattle.builder_columns.specs.Planning.{PlanAnswer, plan_if, found_plan}
 use Rattle.builder_columns.specs.Writing.{written_by}
 use Rattle.builder_appends.specs.Readings.{Readings, is_reading}
 pub use Rattle.builder_appends.specs.declared.Step.{Step}
@@ -28,13 +31,8 @@ accepted_step h p present = record {
   len = suc h.len;
   count = p.count;
   rows = by_layout h.layout p.count 0;
-  refusal = 0;
   present = present;
 }
-
--- what a refused append leaves: all as it is, column 0 too
-abbrev pub refused_step : BuilderHead → BuilderColumn → ℕ → Bool → Step
-refused_step h first n present = record { column = first; id = 0; len = h.len; count = h.count; rows = 0; refusal = n; present = present }
 
 -- a step that can be taken over the columns
 pub record Steppable (cs : List BuilderColumn) (s : Step) : Type 0 where
@@ -46,26 +44,34 @@ pub record Steppable (cs : List BuilderColumn) (s : Step) : Type 0 where
 -- ---- an append
 
 -- the plan, where n is the number that 15 and 16 gave
-unfoldable pub plan_for : ℕ → BuilderHead → List BuilderColumn → List ℕ → List ℕ → Kind → Plan
+unfoldable pub plan_for : ℕ → BuilderHead → List BuilderColumn → List ℕ → List ℕ → Kind → PlanAnswer
 plan_for n h cs names name kind =
     plan_if n (plan_if (no 17 (question17 name)) (found_plan h (found_in cs (first_of h.count (has_name cs names name))) name kind))
 
--- a step, and lent memory at exit
+-- what an append leaves of the builder, nothing if it is refused; the number of the first no; and lent memory at exit
 pub record Stepped : Type 0 where
-  pub step : Step
+  pub step : Option Step
+  pub refusal : ℕ
   pub buffers : Buffers
 
-abbrev pub stepped : Step → Buffers → Stepped
-stepped s m = record { step = s; buffers = m }
+abbrev pub step_taken : Step → Buffers → Stepped
+step_taken s m = record { step = some s; refusal = 0; buffers = m }
+
+abbrev pub step_refused : ℕ → Buffers → Stepped
+step_refused n m = record { step = none; refusal = n; buffers = m }
+
+-- the code's answer, with lent memory at exit
+abbrev pub stepped : Result Step Refusal → Buffers → Stepped
+stepped (Ok s) m = step_taken s m
+stepped (Err r) m = step_refused (refusal_number r) m
 
 -- an append as planned, of a value that is cut already or of a null
-unfoldable pub planned : BuilderHead → List BuilderColumn → Plan → List ℕ → ℕ → Bool → Buffers → Stepped
-planned h cs p name word present m =
-    if_yes p.refusal (stepped (accepted_step h p present) (written_by h p m name (some_if present word)))
-    (stepped (refused_step h (nth_column cs 0) p.refusal present) m)
+unfoldable pub planned : BuilderHead → PlanAnswer → List ℕ → Option ℕ → Buffers → Stepped
+planned h p name v m =
+    if_yes p.refusal (step_taken (accepted_step h p.plan (is_some v)) (written_by h p.plan m name v)) (step_refused p.refusal m)
 
-unfoldable pub append_by : ℕ → BuilderHead → List BuilderColumn → List ℕ → Kind → ℕ → Bool → Buffers → Stepped
-append_by n h cs name kind word present m = planned h cs (plan_for n h cs m.names name kind) name word present m
+unfoldable pub append_by : ℕ → BuilderHead → List BuilderColumn → List ℕ → Kind → Option ℕ → Buffers → Stepped
+append_by n h cs name kind v m = planned h (plan_for n h cs m.names name kind) name v m
 
 -- ---- a reading
 
@@ -84,5 +90,5 @@ unfoldable pub reading_by : ℕ → BuilderHead → List BuilderColumn → List 
 reading_by n h cs text r m =
     let kind = kind_from r.kind in
     cond (is_reading (length text) r.start r.size r.kind r.present)
-    (append_by n h cs (take r.size (drop r.start text)) kind (low_bits (width_of kind) r.bits) (flag_from r.present) m)
-    (stepped (refused_step h (nth_column cs 0) bad_number (flag_from r.present)) m)
+    (append_by n h cs (take r.size (drop r.start text)) kind (some_if (flag_from r.present) (low_bits (width_of kind) r.bits)) m)
+    (step_refused bad_number m)

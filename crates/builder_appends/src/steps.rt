@@ -1,87 +1,86 @@
 // One append: planned, what it adds written, and what it leaves of the builder.
-ghost use Rattle.std.specs.Prelude.{◌≡◌, cond, ◌<◌, eqb};
+ghost use Rattle.std.specs.Prelude.{◌≡◌, cond, ◌<◌, eqb, length, IfOk};
 ghost use Rattle.std.proofs.Math.Option.{none};
-ghost use Rattle.array_columns.specs.Buffers.{buffers_of, amounts_of};
-ghost use Rattle.builder_columns.specs.Columns.{some_if, grown};
+ghost use Rattle.array_columns.specs.Buffers.{amounts_of, held, Same};
+ghost use Rattle.array_columns.specs.Refusal.{number_of};
+ghost use Rattle.builder_columns.specs.Columns.{some_if, given, grown};
+ghost use Rattle.builder_columns.specs.Planning.{plan_told};
+ghost use Rattle.builder_columns.specs.Writing.{Writable};
 ghost use Rattle.builder_appends.specs.Questions.{Open};
-ghost use Rattle.builder_appends.specs.Steps.{accepted_step, refused_step, Steppable, stepped, append_by};
+ghost use Rattle.builder_appends.specs.Steps.{accepted_step, Steppable, stepped, planned, append_by};
 
 use crate::Step;
 use crate::planning::plan;
-use array_columns::Kind;
-use builder_columns::columns::{grown_column, if_sparse, own_column};
-use builder_columns::slots::in_column;
+use array_columns::{BuffersMut, Kind, Layout, Refusal};
 use builder_columns::store::store;
 use builder_columns::{BuilderColumn, BuilderHead, Plan};
 
-// What an accepted append leaves: in dense its column has its slot, in sparse every column gets one of the row.
-fn accepted_step(h: BuilderHead, p: Plan, present: bool) -> Step
-    requires { (h.len < 65536) × (p.column.slots < 65536) }
-    ensures { result ≡ accepted_step h p present }
-{
-    let layout = h.layout;
-    let c = p.column;
-    Step {
-        column: own_column(layout, c, present),
-        id: p.id,
-        len: h.len + 1,
-        count: p.count,
-        rows: if_sparse(layout, p.count),
-        refusal: 0,
-        present: present,
+impl Step {
+    // What an accepted append leaves: in dense its column has its slot, in sparse every column gets one of the row.
+    fn accepted(h: BuilderHead, p: Plan, present: bool) -> Step
+        requires { (h.len < 65536) × (p.column.slots < 65536) }
+        ensures { result ≡ accepted_step h p present }
+    {
+        let (column, rows) = match h.layout {
+            Layout::Sparse => (p.column, p.count),
+            Layout::Dense => (p.column.grown(!present), 0),
+        };
+        Step {
+            column,
+            id: p.id,
+            len: h.len + 1,
+            count: p.count,
+            rows,
+            present,
+        }
+    }
+
+    // Column k with its slot of the row: the value is in the append's own column.
+    pub fn row_column(&self, c: BuilderColumn, k: usize) -> BuilderColumn
+        requires { c.slots < 65536 }
+        ensures { result ≡ grown c (cond (eqb self.now.id k) (some_if self.now.present 0) none) }
+    {
+        c.grown(self.id != k || !self.present)
     }
 }
 
-// What a refused append leaves: all as it is.
-pub(crate) fn refused_step(h: BuilderHead, first: BuilderColumn, n: u8, present: bool) -> Step
-    ensures { result ≡ refused_step h first n present }
-{
-    Step {
-        column: first,
-        id: 0,
-        len: h.len,
-        count: h.count,
-        rows: 0,
-        refusal: n,
-        present: present,
-    }
-}
-
-// Column k with its slot of a row whose value is in column `id`.
-pub fn row_column(c: BuilderColumn, k: usize, id: usize, present: bool) -> BuilderColumn
-    requires { c.slots < 65536 }
-    ensures { result ≡ grown c (cond (eqb id k) (some_if present 0) none) }
-{
-    grown_column(c, !in_column(k, id, present))
-}
-
-// Plans an append, and writes what it adds. `checked` is the number that 15 and 16 gave.
-#[tactic(auto, using(crate::proofs::Stepping::refused_is_append))]
-pub(crate) fn append_step(
+// Writes what a planned append adds; a refused one writes nothing.
+#[tactic(auto, using(crate::proofs::Stepping::is_some_given, array_columns::proofs::Numbered::if_refused, builder_columns::proofs::Putting::written_kept), unfolding(crate::specs::Steps::planned))]
+fn carry_out(
     h: BuilderHead,
-    columns: [BuilderColumn; 128],
-    checked: u8,
+    plan: Result<Plan, Refusal>,
+    name: &[u8],
+    value: Option<u64>,
+    lent: &mut BuffersMut,
+) -> Result<Step, Refusal>
+    requires { IfOk plan (λ p. Writable h p (length name.now) (amounts_of (held lent.old)) × (h.len < 65536) × (p.column.slots < 65536)) }
+    ensures same { Same lent.new lent.old }
+    ensures amounts { amounts_of (held lent.new) ≡ amounts_of (held lent.old) }
+    ensures after { stepped result (held lent.new) ≡ planned h (plan_told plan) name.now (given value) (held lent.old) }
+{
+    let p = plan?;
+    store(h, p, name, value, lent);
+    Ok(Step::accepted(h, p, value.is_some()))
+}
+
+// Plans an append, and writes what it adds. `checked` is the answer to 15 and 16. The arguments are an append's own and its
+// builder's parts, which lie apart in a builder: a struct of them would copy its columns.
+pub fn append_step(
+    h: BuilderHead,
+    columns: &[BuilderColumn; 128],
+    checked: Result<(), Refusal>,
     name: &[u8],
     kind: Kind,
-    word: u64,
-    present: bool,
-    type_ids: &mut [i8],
-    offsets: &mut [i32],
-    values: &mut [u64],
-    masks: &mut [u64],
-    names: &mut [u8],
-) -> Step
-    requires { checked ≡ 0 → Open h columns (amounts_of (buffers_of type_ids.old offsets.old values.old masks.old names.old)) }
-    ensures steppable { Steppable columns result }
-    ensures names_after { stepped result (buffers_of type_ids.new offsets.new values.new masks.new names.new)
-        ≡ append_by checked h columns name.now kind word present (buffers_of type_ids.old offsets.old values.old masks.old names.old) }
+    value: Option<u64>,
+    lent: &mut BuffersMut,
+) -> Result<Step, Refusal>
+    requires { number_of checked ≡ 0 → Open h columns.now (amounts_of (held lent.old)) }
+    ensures steppable { IfOk result (Steppable columns.now) }
+    ensures same { Same lent.new lent.old }
+    ensures kept { amounts_of (held lent.new) ≡ amounts_of (held lent.old) }
+    ensures after { stepped result (held lent.new) ≡ append_by (number_of checked) h columns.now name.now kind (given value) (held lent.old) }
 {
-    let p = plan(h, columns, checked, names, name, kind);
-    if p.refusal != 0 {
-        return refused_step(h, columns[0], p.refusal, present);
-    }
-    store(
-        h, p, name, word, present, type_ids, offsets, values, masks, names,
-    );
-    accepted_step(h, p, present)
+    let shared = lent.shared();
+    let planned = plan(h, columns, checked, shared.names, name, kind);
+    carry_out(h, planned, name, value, lent)
 }

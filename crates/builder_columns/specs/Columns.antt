@@ -1,10 +1,11 @@
 -- A builder's columns: a column, its name, and one with a slot more. A text in quotes is document 01's.
-use Rattle.std.specs.Prelude.{Bool, true, false, not, ◌&&◌, ◌||◌, List, ℕ, suc, eqb, leb, length, get_or}
+use Rattle.std.specs.Prelude.{Bool, true, false, not, ◌&&◌, ◌||◌, List, ℕ, suc, eqb, leb, length, get_or, Some, None}
 use Rattle.std.proofs.Math.Option.{Option, none, some}
+use Rattle.std.specs.declared.option.Option as code
 use Rattle.array_columns.specs.declared.Kind.{Kind}
 use Rattle.array_columns.specs.declared.Kind.TheVariants.{Int8}
 use Rattle.array_columns.specs.declared.Layout.{Layout}
-use Rattle.union_array.specs.Types.{by_layout}
+use Rattle.array_columns.specs.Types.{by_layout}
 use Rattle.union_names.specs.Names.{same_name, name_in}
 pub use Rattle.builder_columns.specs.declared.BuilderColumn.{BuilderColumn}
 
@@ -36,6 +37,11 @@ goes_by names k c name = same_name name (name_in names k c.size)
 abbrev pub some_if : Bool → ℕ → Option ℕ
 some_if true x = some x
 some_if false x = none
+
+-- the code's value, or none for a null
+abbrev pub given : code.Option ℕ → Option ℕ
+given None = none
+given (Some x) = some x
 
 -- it is a null
 abbrev pub is_none {ℓ} : {A : Type ℓ} → Option A → Bool

@@ -3,7 +3,7 @@ use Rattle.std.specs.Prelude.{cond, List, [], ◌∷◌, ℕ, ◌+◌, ◌*◌, 
 use Rattle.std.proofs.Math.Option.{Option, none, some}
 use Rattle.bitmap.specs.Lists.{table}
 use Rattle.bitmap.specs.Bits.{set_bit}
-use Rattle.union_array.specs.Slots.{is_some}
+use Rattle.array_columns.specs.Slots.{is_some}
 use Rattle.builder_columns.specs.Columns.{or_else}
 
 -- the slots that an append adds: in which column, at which slot, a value or a null

@@ -6,7 +6,7 @@ use Rattle.bitmap.specs.Bits.{words_for}
 use Rattle.array_columns.specs.declared.Amounts.{Amounts}
 use Rattle.array_columns.specs.declared.Layout.{Layout}
 use Rattle.array_columns.specs.declared.Layout.TheVariants.{Sparse, Dense}
-use Rattle.union_array.specs.Types.{by_layout}
+use Rattle.array_columns.specs.Types.{by_layout}
 use Rattle.array_columns.specs.Buffers.{Buffers}
 use Rattle.builder_columns.specs.Puts.{Put, put, filled, row, puts, put_value, put_bit}
 pub use Rattle.builder_columns.specs.declared.BuilderHead.{BuilderHead}
@@ -18,6 +18,16 @@ pub record Room (capacity n values masks : ℕ) : Type 0 where
   pub few : n ≤ 128
   pub words : n * capacity ≤ values
   pub bits : n * words_for capacity ≤ masks
+
+-- the puts in order, in the words and mask words of columns of so many slots
+unfoldable pub put_words : ℕ → Buffers → List Put → Buffers
+put_words c m ps = record {
+  ids = m.ids;
+  offsets = m.offsets;
+  values = puts put_value c m.values ps;
+  masks = puts put_bit (64 * words_for c) m.masks ps;
+  names = m.names;
+}
 
 -- the slots that an append adds, in sparse: the nulls of a new column, and a row
 abbrev pub puts_sparse : Plan → ℕ → Option ℕ → List Put

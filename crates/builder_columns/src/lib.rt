@@ -11,7 +11,7 @@ pub mod store;
 use array_columns::{Kind, Layout};
 
 // A column that is being built. Its id is its place in the builder.
-#[derive(Clone, Copy)]
+#[derive(Clone, Copy, Debug, PartialEq, Eq)]
 pub struct BuilderColumn {
     pub slots: u32,
     // The name's length in bytes.
@@ -20,7 +20,7 @@ pub struct BuilderColumn {
     pub masked: bool,
 }
 
-// A builder but for its columns.
+// A builder but for its columns, for the crates below `union_builder`: an `impl` stands where its type is declared.
 #[derive(Clone, Copy)]
 pub struct BuilderHead {
     pub capacity: usize,
@@ -30,20 +30,19 @@ pub struct BuilderHead {
     pub layout: Layout,
 }
 
-// The first column with a name, if it is known.
+// The first column with a name.
 #[derive(Clone, Copy)]
 pub struct Found {
     pub column: BuilderColumn,
     pub id: usize,
-    pub known: bool,
 }
 
-// What an append is to do: its column as it is before the new slot, the columns in use after, and whether the name is new.
+// What an append is to do: its column as it is before the new slot, the columns in use after, and whether the name is new. `fresh`
+// stands beside no value: all else is there of a known name, too.
 #[derive(Clone, Copy)]
 pub struct Plan {
     pub column: BuilderColumn,
     pub id: usize,
     pub count: usize,
-    pub refusal: u8,
     pub fresh: bool,
 }

@@ -1,59 +1,44 @@
 // Questions 18 to 20 of an append, once its name was looked for.
 ghost use Rattle.std.specs.Prelude.{◌≡◌, ◌≤◌, length};
-ghost use Rattle.builder_columns.specs.Planning.{refused_plan, found_plan};
+ghost use Rattle.builder_columns.specs.Finding.{found_told};
+ghost use Rattle.builder_columns.specs.Planning.{plan_told, found_plan};
 
-use crate::columns::{if_sparse, no_column, opened_column};
-use crate::{BuilderHead, Found, Plan};
-use array_columns::Kind;
-use array_columns::kinds::same_kind;
+use crate::{BuilderColumn, BuilderHead, Found, Plan};
+use array_columns::{Kind, Layout, Refusal};
 
-// A plan that is refused.
-pub fn refused(n: u8) -> Plan
-    ensures { result ≡ refused_plan n }
+// Questions 18 to 20, once the name was looked for, and where the append goes. The name has at most 32 bytes, as in `opened`.
+#[tactic(auto, unfolding(crate::specs::Planning::found_plan))]
+pub fn settle(
+    h: BuilderHead,
+    found: Option<Found>,
+    name: &[u8],
+    kind: Kind,
+) -> Result<Plan, Refusal>
+    requires { (h.len ≤ 65536) × (length name.now ≤ 32) }
+    ensures { plan_told result ≡ found_plan h (found_told found) name.now kind }
 {
-    Plan {
-        column: no_column(),
-        id: 0,
-        count: 0,
-        refusal: n,
-        fresh: false,
-    }
-}
-
-// Questions 18 to 20, once the name was looked for.
-pub fn settle(b: BuilderHead, f: Found, name: &[u8], kind: Kind) -> Plan
-    requires { (b.len ≤ 65536) × (length name.now ≤ 32) }
-    ensures { result ≡ found_plan b f name.now kind }
-{
-    if f.known {
-        let c = f.column;
-        let held = c.kind;
-        if !same_kind(held, kind) {
-            return refused(18);
-        }
-        if b.capacity <= b.len {
-            return refused(19);
-        }
-        return Plan {
-            column: c,
+    let full = h.capacity <= h.len;
+    match found {
+        Some(f) if f.column.kind != kind => Err(Refusal::KindMismatch),
+        _ if full => Err(Refusal::CapacityReached),
+        Some(f) => Ok(Plan {
+            column: f.column,
             id: f.id,
-            count: b.count,
-            refusal: 0,
+            count: h.count,
             fresh: false,
-        };
-    }
-    if b.capacity <= b.len {
-        return refused(19);
-    }
-    if b.limit <= b.count {
-        return refused(20);
-    }
-    let layout = b.layout;
-    Plan {
-        column: opened_column(name, kind, if_sparse(layout, b.len)),
-        id: b.count,
-        count: b.count + 1,
-        refusal: 0,
-        fresh: true,
+        }),
+        None if h.limit <= h.count => Err(Refusal::ColumnsReached),
+        None => {
+            let filled = match h.layout {
+                Layout::Sparse => h.len,
+                Layout::Dense => 0,
+            };
+            Ok(Plan {
+                column: BuilderColumn::opened(name, kind, filled),
+                id: h.count,
+                count: h.count + 1,
+                fresh: true,
+            })
+        }
     }
 }

@@ -1,78 +1,66 @@
-// Slots of columns: one, the nulls of a new column, and a row of all columns.
-ghost use Rattle.std.specs.Prelude.{◌≡◌, cond, false, ◌+◌, ◌*◌, ◌<◌, ◌≤◌, eqb, length};
+// Slots of columns: one, the nulls of a new column, and a row of all columns. Each says what room it needs: memory that is written can't
+// be told once for all in a struct that is kept.
+ghost use Rattle.std.specs.Prelude.{◌≡◌, [], ◌∷◌, ◌+◌, ◌<◌, ◌≤◌, length};
 ghost use Rattle.std.proofs.Math.Option.{none};
-ghost use Rattle.bitmap.specs.Bits.{words_for};
-ghost use Rattle.builder_columns.specs.Columns.{some_if, or_else};
-ghost use Rattle.builder_columns.specs.Puts.{filled, row, puts, put_value, put_bit};
-ghost use Rattle.builder_columns.specs.Writing.{Room};
+ghost use Rattle.array_columns.specs.Buffers.{held, Same};
+ghost use Rattle.builder_columns.specs.Columns.{given};
+ghost use Rattle.builder_columns.specs.Puts.{put, filled, row};
+ghost use Rattle.builder_columns.specs.Writing.{Room, put_words};
 
-// The word of a slot: a null's is 0.
-fn slot_word(word: u64, present: bool) -> u64
-    ensures { result ≡ or_else (some_if present word) 0 }
-{
-    if present { word } else { 0 }
-}
+use array_columns::BuffersMut;
 
-// Whether a row has its value in column k: it is that of column `id`.
-pub fn in_column(k: usize, id: usize, present: bool) -> bool
-    ensures { result ≡ cond (eqb id k) present false }
-{
-    if id == k { present } else { false }
-}
-
-// Puts a value or a null in a slot of column k: its word, and its mask bit.
+// Puts a value or a null in a slot of column k: its word, a null's is 0, and its mask bit.
+#[tactic(auto, unfolding(crate::specs::Writing::put_words))]
 pub(crate) fn put_slot(
-    values: &mut [u64],
-    masks: &mut [u64],
+    lent: &mut BuffersMut,
     capacity: usize,
     k: usize,
     slot: usize,
-    word: u64,
-    present: bool,
+    value: Option<u64>,
 )
-    requires { Room capacity (k + 1) (length values.old) (length masks.old) × (slot < capacity) }
-    ensures values_after { values.new ≡ put_value values.old (k * capacity + slot) (some_if present word) }
-    ensures masks_after { masks.new ≡ put_bit masks.old (k * (64 * words_for capacity) + slot) (some_if present word) }
+    requires { Room capacity (k + 1) (length lent.old.values.now) (length lent.old.masks.now) × (slot < capacity) }
+    ensures same { Same lent.new lent.old }
+    ensures after { held lent.new ≡ put_words capacity (held lent.old) (put k slot (given value) ∷ []) }
 {
-    values[k * capacity + slot] = slot_word(word, present);
-    bitmap::set_bit(masks, k * bitmap::words_for(capacity), slot, present);
+    lent.values[k * capacity + slot] = value.unwrap_or(0);
+    bitmap::set_bit(
+        lent.masks,
+        k * bitmap::words_for(capacity),
+        slot,
+        value.is_some(),
+    );
 }
 
 // Puts nulls in the first n slots of column k.
-pub(crate) fn put_nulls(values: &mut [u64], masks: &mut [u64], capacity: usize, k: usize, n: usize)
-    requires { Room capacity (k + 1) (length values.old) (length masks.old) × (n ≤ capacity) }
-    ensures values_after { values.new ≡ puts put_value capacity values.old (filled none k n) }
-    ensures masks_after { masks.new ≡ puts put_bit (64 * words_for capacity) masks.old (filled none k n) }
+#[tactic(auto, using(crate::proofs::Putting::words_none, crate::proofs::Putting::filled_more))]
+pub(crate) fn put_nulls(lent: &mut BuffersMut, capacity: usize, k: usize, n: usize)
+    requires { Room capacity (k + 1) (length lent.old.values.now) (length lent.old.masks.now) × (n ≤ capacity) }
+    ensures same { Same lent.new lent.old }
+    ensures after { held lent.new ≡ put_words capacity (held lent.old) (filled none k n) }
 {
-    for s in 0..n {
-        put_slot(values, masks, capacity, k, s, 0, false);
+    // By number, since a slot is a word in one memory and a bit in another.
+    for slot in 0..n {
+        put_slot(lent, capacity, k, slot, None);
     }
 }
 
 // Puts a slot in each of n columns: the value in column `id`, a null in each other.
+#[tactic(auto, using(crate::proofs::Putting::words_none, crate::proofs::Putting::row_more))]
 pub(crate) fn put_row(
-    values: &mut [u64],
-    masks: &mut [u64],
+    lent: &mut BuffersMut,
     capacity: usize,
     n: usize,
     slot: usize,
     id: usize,
-    word: u64,
-    present: bool,
+    value: Option<u64>,
 )
-    requires { Room capacity n (length values.old) (length masks.old) × (slot < capacity) }
-    ensures values_after { values.new ≡ puts put_value capacity values.old (row n slot id (some_if present word)) }
-    ensures masks_after { masks.new ≡ puts put_bit (64 * words_for capacity) masks.old (row n slot id (some_if present word)) }
+    requires { Room capacity n (length lent.old.values.now) (length lent.old.masks.now) × (slot < capacity) }
+    ensures same { Same lent.new lent.old }
+    ensures after { held lent.new ≡ put_words capacity (held lent.old) (row n slot id (given value)) }
 {
+    // By number, since a column is a row of one memory and a row of another, of two lengths.
     for k in 0..n {
-        put_slot(
-            values,
-            masks,
-            capacity,
-            k,
-            slot,
-            word,
-            in_column(k, id, present),
-        );
+        let own = if k == id { value } else { None };
+        put_slot(lent, capacity, k, slot, own);
     }
 }

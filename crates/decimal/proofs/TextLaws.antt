@@ -61,6 +61,13 @@ digits_back base (suc k) n most p q h l =
     ∙ ap (λ (x : ℕ). number_of base x [] most) s
     ∙ number_none base n most l
 
+-- the byte of a digit: below 10 from 48 on, the others from 97 on
+pub glyph_low : (d : ℕ) → d < 10 → 48 + d ≡ glyph_of d
+glyph_low d h = rw (lt-ltb d 10 h)
+
+pub glyph_high : (d : ℕ) → 10 ≤ d → 87 + d ≡ glyph_of d
+glyph_high d h = rw (le-ltb d 10 h)
+
 -- ---- what the writers leave
 
 -- an answer and bytes that are equal

@@ -4,8 +4,10 @@ use mathlib.Core.Bool.{true}
 use mathlib.Core.List.{List}
 use Prim.Native.Nat.{ℕ, suc, ◌+◌, ◌-◌, ◌*◌, ◌^◌, ◌<◌, ◌≤◌}
 use native.Mathlib.Omega.{arith}
+use lib.Dec.{eqb}
 use lib.ListN.{length, take, drop}
-use Rattle.std.specs.Prelude.{Some}
+use borrow.Author.Tests.{eqb-true}
+use Rattle.std.specs.Prelude.{Option, Some}
 use Rattle.decimal.specs.Digits.{number_of}
 use Rattle.decimal.specs.Integers.{is_hex}
 use Rattle.decimal.specs.Text.{last_digits, Output, output}
@@ -17,6 +19,10 @@ use Rattle.decimal_float.specs.declared.Format.{Format}
 use Rattle.decimal_float.specs.declared.Format.TheVariants.{Binary32, Binary64}
 use Rattle.decimal_float.specs.Floats.{sign_weight, hex_digits, float_of}
 use Rattle.decimal_float.proofs.FloatLaws.{float_hex}
+
+-- a text reads as the bits, where the number read equals them
+pub reads : (f : Format) (text : List ℕ) (b : Option ℕ) (n bits : ℕ) → b ≡ float_of f text → b ≡ Some n → eqb n bits ≡ true → float_of f text ≡ Some bits
+reads f text b n bits p q e = sym p ∙ q ∙ ap Some (eqb-true n bits e)
 
 -- ---- a float's bits in hexadecimal read back
 

@@ -27,6 +27,18 @@ module _ (m d whole rest steps : ℕ) (parts : m * 2 ^ steps ≡ d * whole + res
       let g : d * (2 * whole + 1) ≡ d * (2 * whole) + d = mul-add d (2 * whole) 1 ∙ ap (λ (x : ℕ). d * (2 * whole) + x) (mul-one d) in
       omega arith
 
+  -- after 113 turns there are 63 digits
+  pub enough : 0 < m → d ≤ 10 ^ 15 → rest < d → 113 ≤ steps → steps ≤ 113 → 2 ^ 62 ≤ whole
+  enough h k l a b =
+      let s : steps ≡ 113 = omega arith in
+      let e : m * 2 ^ 113 ≡ d * whole + rest = subst (λ (x : ℕ). m * 2 ^ x ≡ d * whole + rest) s parts in
+      let g : d * whole ≤ 10 ^ 15 * whole = mul-le-mul_right whole k in
+      omega arith
+
+-- the parts before the first turn
+pub first_parts : (m d : ℕ) → m * 2 ^ 0 ≡ d * (m / d) + m % d
+first_parts m d = mul-one m ∙ sym (div-add-mod m d)
+
 -- ---- the rounding
 
 compare_lt : (a b : ℕ) → a < b → compare a b ≡ Ordering.lt
@@ -130,6 +142,10 @@ module _ (whole rest drop : ℕ) (low : 0 < drop) (high : drop < 63) where
   wide_is : Wide ≡ 2 ^ drop
   wide_is = one_shifted drop (omega arith)
 
+  -- the weight that is cut at is no zero
+  pub wide_pos : 0 < Wide
+  wide_pos = rw wide_is (pow_pos drop)
+
   half_is : Half ≡ 2 ^ (drop - 1)
   half_is = one_shifted (drop - 1) (omega arith)
 
@@ -159,15 +175,9 @@ module _ (whole rest drop : ℕ) (low : 0 < drop) (high : drop < 63) where
 abbrev pub Turned : ℕ → ℕ → ℕ → ℕ → ℕ → Type 0
 Turned m d whole rest steps = (m * 2 ^ steps ≡ d * whole + rest) × (rest < d) × (whole < 2 ^ 63) × (steps ≤ 113)
 
--- after 113 turns there are 63 digits
+-- so with fewer digits there were fewer turns
 pub turns_left : (m d whole rest steps : ℕ) → 0 < m → d ≤ 10 ^ 15 → Turned m d whole rest steps → whole < 2 ^ 62 → steps < 113
-turns_left m d whole rest steps h k was few = lt_of_not-le (λ (g : 113 ≤ steps). not-le_of_lt few (enough (omega (arith, g))))
-  where
-    enough : steps ≡ 113 → 2 ^ 62 ≤ whole
-    enough s =
-        let e : m * 2 ^ 113 ≡ d * whole + rest = subst (λ (x : ℕ). m * 2 ^ x ≡ d * whole + rest) s was.0 in
-        let g : d * whole ≤ 10 ^ 15 * whole = mul-le-mul_right whole k in
-        omega arith
+turns_left m d whole rest steps h k was few = lt_of_not-le (λ (g : 113 ≤ steps). not-le_of_lt few (enough m d whole rest steps was.0 h k was.1 g was.3))
 
 module _ (m d whole rest steps w r : ℕ) (was : Turned m d whole rest steps) (few : whole < 2 ^ 62) (more : steps < 113) where
   pub turned_0 : 2 * rest < d → w ≡ 2 * whole → r ≡ 2 * rest → Turned m d w r (steps + 1)

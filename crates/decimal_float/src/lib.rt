@@ -1,8 +1,6 @@
 // Floats as text and back: decimals of at most 15 digits, or the bits in hexadecimal.
 #![tactic(auto)]
 
-ghost use Rattle.std.specs.Prelude.{◌≡◌, cond};
-ghost use Rattle.decimal_float.specs.Floats.{sign_weight};
 ghost use Rattle.decimal_float.specs.Division.{SizesOf};
 
 pub mod float;

@@ -1,5 +1,5 @@
 // The nearest float to a fraction of two numbers, by long division, one binary digit a turn.
-ghost use Rattle.std.specs.Prelude.{◌≡◌, cond, ◌*◌, ◌^◌, ◌<◌, ◌≤◌};
+ghost use Rattle.std.specs.Prelude.{◌≡◌, cond, ◌^◌, ◌<◌, ◌≤◌};
 ghost use Rattle.std.specs.Float.Ieee.{to_bits, round};
 ghost use Rattle.decimal_float.specs.Floats.{ieee, sign_weight};
 ghost use Rattle.decimal_float.specs.Division.{Divided, Rounded};

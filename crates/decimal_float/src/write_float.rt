@@ -60,7 +60,8 @@ impl Fixed {
 }
 
 // Puts n / 10^k at the start of `out`, with k digits after the point, if there are any; answers its length. Promised is only that this is at
-// most 36: the caller reads the text back.
+// most 36: the caller reads the text back. The bounds on k and on the room are what one function hands to the next, here and below: a
+// struct for them would be made for one call.
 #[tactic(auto, using(crate::proofs::FloatLaws::ten_pos))]
 fn write_fixed(n: u64, k: usize, out: &mut [u8]) -> usize
     requires { (k ≤ 15) × (36 ≤ length out.old) }
@@ -134,6 +135,7 @@ impl Float {
         ensures { ReadsBack self.bits self.format out.new result }
     {
         let mut x = self.scaled().fixed();
+        // As many digits after the point as k says.
         for k in 0..16 {
             if MOST < x.whole {
                 return None;

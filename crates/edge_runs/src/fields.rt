@@ -1,9 +1,8 @@
 // An array's fields in list order: each one's id and name, and what `child` answers to the id.
 use crate::print;
 use array_columns::Column;
-use array_columns::kinds::kind_number;
-use array_columns::questions::{entry_of, no_column};
-use program_kit::lent::number_of;
+use array_columns::questions::entry_of;
+use array_columns::refusals::number_of;
 use program_kit::output::Writer;
 use program_kit::parts;
 use program_kit::view::View;
@@ -14,8 +13,8 @@ use union_array::NamePlace;
 // What `child` answers: its id and kind, and where its name, values and mask are.
 fn child(to: &mut Writer, view: &View, id: i8) -> io::Result<()> {
     let answer = view.child(id);
-    let c = answer.unwrap_or(no_column());
-    let kind = kind_number(c.kind);
+    let c = answer.unwrap_or(Column::zeros());
+    let kind = c.kind.number();
     write!(to, "; child {}", number_of(answer))?;
     write!(to, ", id {}, kind {kind}", entry_of(c.id))?;
     write!(to, ", name at {} {}", c.name, c.size)?;
@@ -28,7 +27,8 @@ fn child(to: &mut Writer, view: &View, id: i8) -> io::Result<()> {
 
 // A field: its id and name, and its child.
 fn field(to: &mut Writer, view: &View, id: i8, name: NamePlace) -> io::Result<()> {
-    let bytes = parts::part(view.lent.names, name.start, name.size as usize).unwrap_or(&[]);
+    let lent = view.lent;
+    let bytes = parts::part_or_empty(lent.names, name.start, name.size as usize);
     write!(to, "  field: id {}, name {} ", entry_of(id), name.size)?;
     print::hex(to, bytes)?;
     child(to, view, id)

@@ -1,17 +1,14 @@
 // The lists of appends.
 use crate::names::NAMES;
-use array_columns::{Kind, kinds};
+use array_columns::Kind;
+use program_kit::builders::Reading;
 use std::alloc::{AllocError, Global};
 use std::fmt;
 
-// What an append is given: a name, and a value's bits of a kind, or a null.
-#[derive(Clone, Copy)]
-pub struct Entry {
-    pub name: &'static [u8],
-    pub kind: Kind,
-    pub value: Option<u64>,
-}
+// What an append of a list is given.
+pub type Entry = Reading<'static>;
 
+// Shorter where a list is written out than the struct.
 fn given(name: &'static [u8], kind: Kind, value: Option<u64>) -> Entry {
     Entry { name, kind, value }
 }
@@ -91,9 +88,9 @@ fn pairs(alloc: Global, text: &'static [u8]) -> Result<Vec<Entry>, AllocError> {
     for (pair, bits) in pairs.iter().zip(1..) {
         let name = &pair[..1];
         let mark = pair[1];
-        entries.push(match mark {
-            b'0'..=b'9' => given(name, kinds::kind_from(mark - b'0'), Some(bits)),
-            _ => given(name, Kind::Int8, None),
+        entries.push(match Kind::try_from(mark.wrapping_sub(b'0')) {
+            Ok(kind) => given(name, kind, Some(bits)),
+            Err(_) => given(name, Kind::Int8, None),
         })?;
     }
     Ok(entries)

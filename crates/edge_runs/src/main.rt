@@ -14,7 +14,6 @@ mod read;
 mod refusals;
 mod rounds;
 mod run;
-mod same;
 mod shown;
 mod slots;
 mod tell;

@@ -1,8 +1,9 @@
 // Makings at the limits of slots and columns, and calls of a builder that are lent too little.
 use crate::read;
-use array_columns::Layout;
-use program_kit::lent::{Buffers, number_of};
+use array_columns::refusals::number_of;
+use array_columns::{Buffers, Layout};
 use program_kit::output::{Writer, layout_name};
+use program_kit::parts::Buffer;
 use program_kit::{builders, parts};
 use std::io;
 use std::io::Write;
@@ -39,43 +40,38 @@ fn first<T>(list: &[T], n: usize, short: bool) -> &[T] {
     parts::first(list, parts::lent(n, short, list.len()))
 }
 
-// The part of memory of which one element too few is lent, if it is one. It is printed by its number from 0.
-#[derive(Clone, Copy, PartialEq, Eq)]
-enum Short {
-    TypeIds,
-    Offsets,
-    Values,
-    Masks,
-    Names,
-    Nothing,
-}
-
-const SHORTS: [Short; 6] = [
-    Short::TypeIds,
-    Short::Offsets,
-    Short::Values,
-    Short::Masks,
-    Short::Names,
-    Short::Nothing,
+// The part of memory of which one element too few is lent, if it is one.
+const SHORTS: [Option<Buffer>; 6] = [
+    Some(Buffer::TypeIds),
+    Some(Buffer::Offsets),
+    Some(Buffer::Values),
+    Some(Buffer::Masks),
+    Some(Buffer::Names),
+    None,
 ];
 
 // What a builder of 64 slots and 2 columns needs, but for what it is short of.
-fn needed<'a>(lent: &Buffers<'a>, of: Short) -> Buffers<'a> {
+fn needed<'a>(lent: &Buffers<'a>, of: Option<Buffer>) -> Buffers<'a> {
     Buffers {
-        type_ids: first(lent.type_ids, 64, of == Short::TypeIds),
-        offsets: first(lent.offsets, 64, of == Short::Offsets),
-        values: first(lent.values, 128, of == Short::Values),
-        masks: first(lent.masks, 2, of == Short::Masks),
-        names: first(lent.names, 64, of == Short::Names),
+        type_ids: first(lent.type_ids, 64, of == Some(Buffer::TypeIds)),
+        offsets: first(lent.offsets, 64, of == Some(Buffer::Offsets)),
+        values: first(lent.values, 128, of == Some(Buffer::Values)),
+        masks: first(lent.masks, 2, of == Some(Buffer::Masks)),
+        names: first(lent.names, 64, of == Some(Buffer::Names)),
     }
 }
 
 // The numbers of a making of 64 slots and 2 columns that is lent too little, and of such a builder's `finish_cloned` and `finish`.
-fn numbers(to: &mut Writer, layout: Layout, of: Short, lent: &Buffers) -> io::Result<()> {
+fn numbers(
+    to: &mut Writer,
+    layout: Layout,
+    number: usize,
+    lent: &Buffers,
+    less: &Buffers,
+) -> io::Result<()> {
     let mut b = builders::make(layout, 64, 2, lent).unwrap_or(builders::refused());
-    let less = &needed(lent, of);
     let made = builders::make(layout, 64, 2, less);
-    write!(to, " short of {}: making {}", of as u8, number_of(made))?;
+    write!(to, " short of {number}: making {}", number_of(made))?;
     let snapshot = builders::finish_cloned(&b, less);
     write!(to, ", finish_cloned {}", number_of(snapshot))?;
     let batch = builders::finish(&mut b, less);
@@ -95,8 +91,8 @@ pub fn lines(to: &mut Writer, layout: Layout) -> io::Result<()> {
     for (slots, columns) in SIZES {
         made(to, layout, slots, columns, lent)?;
     }
-    for of in SHORTS {
-        numbers(to, layout, of, lent)?;
+    for (number, of) in SHORTS.iter().enumerate() {
+        numbers(to, layout, number, lent, &needed(lent, *of))?;
     }
     Ok(())
 }

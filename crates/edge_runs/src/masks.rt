@@ -1,9 +1,10 @@
 // The null mask at each setting, and by each named strategy.
 use crate::print;
 use crate::print::yes;
+use array_columns::Refusal;
+use array_columns::refusals::number_of;
 use logical_nulls::{LogicalNulls, SparseStrategy};
 use null_strategy::Route;
-use program_kit::lent::{Refusal, number_of};
 use program_kit::output::Writer;
 use program_kit::view::View;
 use std::io;
@@ -11,10 +12,8 @@ use std::io::Write;
 
 // What stands for a null mask that is refused.
 const ABSENT: LogicalNulls = LogicalNulls {
-    nulls: 0,
-    refusal: 0,
+    null_count: None,
     route: Route::Absent,
-    present: false,
 };
 
 // A null mask on a line: number, present, null count, route, words.
@@ -28,8 +27,8 @@ fn line<F: FnOnce(&mut [u64]) -> Result<LogicalNulls, Refusal>>(
     let answer = mask(&mut words);
     let nulls = answer.unwrap_or(ABSENT);
     write!(to, ": {}", number_of(answer))?;
-    write!(to, " {}", yes(nulls.present))?;
-    write!(to, " {}", nulls.nulls)?;
+    write!(to, " {}", yes(nulls.null_count.is_some()))?;
+    write!(to, " {}", nulls.null_count.unwrap_or(0))?;
     write!(to, " {}", nulls.route.number())?;
     print::words(to, &words)?;
     writeln!(to)

@@ -1,6 +1,7 @@
 // The memory that a list's builder is lent.
-use program_kit::lent::{Buffers, BuffersMut};
+use array_columns::{Buffers, BuffersMut};
 
+// Arrays, and no lists, since their sizes are what is tried.
 #[derive(Clone, Copy)]
 pub struct Memory {
     pub type_ids: [i8; 66],

@@ -2,8 +2,7 @@
 use crate::lists::{Entry, List};
 use crate::play::Note;
 use crate::print;
-use array_columns::kinds::kind_number;
-use program_kit::lent::number_of;
+use array_columns::refusals::number_of;
 use program_kit::output::Writer;
 use std::io;
 use std::io::Write;
@@ -12,7 +11,7 @@ use std::io::Write;
 fn given(to: &mut Writer, e: &Entry) -> io::Result<()> {
     write!(to, " ")?;
     print::hex(to, e.name)?;
-    write!(to, ", kind {}", kind_number(e.kind))?;
+    write!(to, ", kind {}", e.kind.number())?;
     match e.value {
         Some(bits) => write!(to, ", bits {bits:016x}"),
         None => write!(to, ", missing"),

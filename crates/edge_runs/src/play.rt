@@ -1,12 +1,11 @@
 // Builders that play a list.
 use crate::lists::{Entry, List};
 use crate::memory::Memory;
-use array_columns::{Kind, Layout};
+use array_columns::{Buffers, BuffersMut, Layout, Refusal};
 use program_kit::builders;
-use program_kit::lent::{Buffers, BuffersMut, Refusal};
+use program_kit::builders::Reading;
 use std::alloc::{AllocError, Global};
 use union_array::UnionArray;
-use union_array::slices::no_array;
 use union_builder::UnionBuilder;
 
 // What is noted of an append: its answer, and the builder's length after it.
@@ -46,24 +45,18 @@ pub fn play<F>(
     append: F,
 ) -> Result<Played, AllocError>
 where
-    F: Fn(&mut UnionBuilder, &[u8], Kind, Option<u64>, &mut BuffersMut) -> Result<(), Refusal>,
+    F: Fn(&mut UnionBuilder, &Reading, &mut BuffersMut) -> Result<(), Refusal>,
     requires { F.IsAlwaysCallable append }
 {
     let mut memory = Memory::ones();
     let mut builder = builder_of(list, layout, &memory.lent());
-    let mut half = no_array();
+    let mut half = UnionArray::empty();
     let mut notes = Vec::new(alloc);
     for (i, e) in entries.iter().enumerate() {
         if i == entries.len() / 2 {
             half = builders::finish_cloned(&builder, &memory.lent()).unwrap_or(half);
         }
-        let answer = append(
-            &mut builder,
-            e.name,
-            e.kind,
-            e.value,
-            &mut memory.lent_mut(),
-        );
+        let answer = append(&mut builder, e, &mut memory.lent_mut());
         let len = builders::len(&builder);
         notes.push(Note { answer, len })?;
     }

@@ -3,13 +3,14 @@ use crate::memory::Memory;
 use crate::play::Played;
 use crate::print::yes;
 use crate::{fields, print, shown, slots};
+use array_columns::Refusal;
+use array_columns::refusals::number_of;
 use program_kit::builders;
-use program_kit::lent::{Refusal, number_of};
 use program_kit::output::{Writer, layout_name};
 use program_kit::view::View;
 use std::io;
 use std::io::Write;
-use union_array::slices::no_array;
+use union_array::UnionArray;
 use union_builder::UnionBuilder;
 
 // A builder's layout, slots and columns, and those in use.
@@ -46,7 +47,7 @@ pub fn finished(to: &mut Writer, played: &Played) -> io::Result<()> {
     let lent = &played.memory.lent();
     let n = builders::len(&b);
     let answer = builders::finish(&mut b, lent);
-    let array = answer.unwrap_or(no_array());
+    let array = answer.unwrap_or(UnionArray::empty());
     write!(to, " finish {}", number_of(answer))?;
     write!(to, ", slots {}, fields {}", array.count, array.fields)?;
     state(to, &b)?;

@@ -1,19 +1,19 @@
 // Calls on an array that are refused, and their neighbours that are not.
 use crate::masks;
 use crate::play::Played;
+use array_columns::refusals::number_of;
 use program_kit::builders;
-use program_kit::lent::number_of;
 use program_kit::output::Writer;
 use program_kit::view::View;
 use std::io;
 use std::io::Write;
-use union_array::slices::no_array;
+use union_array::UnionArray;
 
 // On the array that a builder describes: slices at its end and past it, children of ids that name no field, and the null masks with
 // no word lent and of slot 0 alone.
 pub fn lines(to: &mut Writer, played: &Played) -> io::Result<()> {
     let lent = &played.memory.lent();
-    let array = builders::finish_cloned(&played.builder, lent).unwrap_or(no_array());
+    let array = builders::finish_cloned(&played.builder, lent).unwrap_or(UnionArray::empty());
     let view = &View { array, lent };
     let n = array.count;
     write!(
@@ -28,6 +28,6 @@ pub fn lines(to: &mut Writer, played: &Played) -> io::Result<()> {
     masks::no_words(to, view)?;
     let first = view.slice(0, 1);
     writeln!(to, "  slice of slot 0: {}", number_of(first))?;
-    let array = first.unwrap_or(no_array());
+    let array = first.unwrap_or(UnionArray::empty());
     masks::lines(to, &View { array, lent })
 }

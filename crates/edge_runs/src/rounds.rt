@@ -2,13 +2,13 @@
 use crate::lists::Entry;
 use crate::play::Played;
 use crate::{fields, masks, tell};
+use array_columns::refusals::number_of;
 use program_kit::builders;
-use program_kit::lent::number_of;
 use program_kit::output::Writer;
 use program_kit::view::View;
 use std::io;
 use std::io::Write;
-use union_array::slices::no_array;
+use union_array::UnionArray;
 
 // The fields, how many slots tell their entries, and every null mask.
 fn read_back(to: &mut Writer, view: &View, entries: &[Entry]) -> io::Result<()> {
@@ -27,12 +27,12 @@ pub fn lines(to: &mut Writer, played: &Played, entries: &[Entry]) -> io::Result<
     let lent = &played.memory.lent();
     let answer = builders::finish_cloned(&played.builder, lent);
     writeln!(to, " finish_cloned: {}", number_of(answer))?;
-    let array = answer.unwrap_or(no_array());
+    let array = answer.unwrap_or(UnionArray::empty());
     let whole = &View { array, lent };
     read_back(to, whole, entries)?;
     let answer = whole.slice(1, array.count.saturating_sub(1));
     writeln!(to, " slice from slot 1: {}", number_of(answer))?;
-    let array = answer.unwrap_or(no_array());
+    let array = answer.unwrap_or(UnionArray::empty());
     read_back(to, &View { array, lent }, entries.get(1..).unwrap_or(&[]))?;
     let array = played.half;
     writeln!(to, " snapshot at slot {}", array.count)?;

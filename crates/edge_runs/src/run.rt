@@ -2,7 +2,7 @@
 use crate::lists::List;
 use crate::play::{Played, play};
 use crate::print::yes;
-use crate::{notes, read, refusals, rounds, same};
+use crate::{notes, read, refusals, rounds};
 use array_columns::Layout;
 use program_kit::builders;
 use program_kit::output::{Writer, layout_name};
@@ -14,8 +14,11 @@ use std::io::Write;
 fn compared(to: &mut Writer, a: &Played, b: &Played) -> io::Result<()> {
     let m = &a.memory;
     let n = &b.memory;
-    let same = same::builders(&a.builder, &b.builder);
-    write!(to, " by append_mut: builder {}", yes(same))?;
+    write!(
+        to,
+        " by append_mut: builder {}",
+        yes(a.builder == b.builder)
+    )?;
     write!(to, ", numbers {}", yes(a.notes == b.notes))?;
     write!(to, ", memory {}", yes(m.type_ids == n.type_ids))?;
     write!(to, " {}", yes(m.offsets == n.offsets))?;

@@ -1,11 +1,12 @@
 // The type ids that an array, or a slice of it, shows as a part of the caller's memory.
 use crate::print;
-use program_kit::lent::{Buffers, number_of};
+use array_columns::Buffers;
+use array_columns::refusals::number_of;
 use program_kit::output::Writer;
 use program_kit::view::View;
 use std::io;
 use std::io::Write;
-use union_array::slices::no_array;
+use union_array::UnionArray;
 
 // The number, and the type ids that are shown.
 fn line(to: &mut Writer, label: &str, view: &View) -> io::Result<()> {
@@ -27,7 +28,7 @@ pub fn lines(to: &mut Writer, view: &View, n: usize) -> io::Result<()> {
         return Ok(());
     }
     let View { array, lent } = *view;
-    let part = view.slice(1, n - 1).unwrap_or(no_array());
+    let part = view.slice(1, n - 1).unwrap_or(UnionArray::empty());
     let type_ids = lent.type_ids.get(..n - 1).unwrap_or(lent.type_ids);
     let fewer = &Buffers { type_ids, ..*lent };
     line(to, "", view)?;

@@ -1,23 +1,33 @@
 // An array's slots: what `type_id`, `value_offset` and `value` answer.
 use crate::print;
-use array_columns::child_value::no_value;
-use array_columns::kinds::kind_number;
 use array_columns::questions::entry_of;
-use program_kit::lent::number_of;
+use array_columns::refusals::number_of;
+use array_columns::{Kind, Value};
 use program_kit::output::Writer;
 use program_kit::view::View;
 use std::io;
 use std::io::Write;
 
+// What stands for the value of a slot that is refused.
+const REFUSED: Value = Value {
+    value: Some(0),
+    name: [0; 32],
+    size: 0,
+    id: 0,
+    kind: Kind::Int8,
+};
+
 // What `value` answers: its id and kind, the bits, or missing, and the name's length and its 32 bytes.
 fn value(to: &mut Writer, view: &View, i: usize) -> io::Result<()> {
     let answer = view.value(i);
-    let v = answer.unwrap_or(no_value(0));
-    let kind = kind_number(v.kind);
+    let v = answer.unwrap_or(REFUSED);
+    let kind = v.kind.number();
     write!(to, ", value {}", number_of(answer))?;
     write!(to, ", id {}, kind {kind}", entry_of(v.id))?;
-    let told = if v.missing { "missing," } else { "bits" };
-    write!(to, ", {told} {:016x}", v.bits)?;
+    match v.value {
+        Some(bits) => write!(to, ", bits {bits:016x}")?,
+        None => write!(to, ", missing, {:016x}", 0)?,
+    }
     write!(to, ", name {} ", v.size)?;
     print::hex(to, &v.name)?;
     writeln!(to)

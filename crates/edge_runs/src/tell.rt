@@ -1,7 +1,6 @@
 // Whether slots tell the entries of a round.
 use crate::lists::Entry;
 use array_columns::Value;
-use array_columns::kinds::kind_number;
 use program_kit::view::View;
 
 // Whether a value's 32 name bytes are a name's, with zeros after it.
@@ -15,10 +14,7 @@ fn is_named(v: &Value, name: &[u8]) -> bool {
 fn tells(view: &View, slot: usize, e: &Entry) -> bool {
     let id = i8::from(e.name != b"a".as_slice());
     match view.value(slot) {
-        Ok(v) => v.id == id
-            && kind_number(v.kind) == kind_number(e.kind)
-            && (!v.missing).then_some(v.bits) == e.value
-            && is_named(&v, e.name),
+        Ok(v) => v.id == id && v.kind == e.kind && v.value == e.value && is_named(&v, e.name),
         Err(_) => false,
     }
 }

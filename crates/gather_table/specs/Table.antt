@@ -9,7 +9,7 @@ use Rattle.array_columns.specs.Types.{no_column, by_layout}
 use Rattle.array_columns.specs.Buffers.{Buffers}
 use Rattle.array_columns.specs.Slots.{present}
 use Rattle.array_columns.specs.Questions.{presence_in}
-use Rattle.mask_words.specs.Steps.{id_at}
+use Rattle.mask_words.specs.Steps.{id_at, Plain}
 
 -- the no_nulls entry: a column without a mask, of more slots than a child has
 abbrev pub without_nulls : Column
@@ -25,25 +25,24 @@ unfoldable pub table_of : List Column → List Column
 table_of cs = stored (replicate 256 without_nulls) cs
 
 -- the entry for slot i
-abbrev pub table_entry : List Column → List ℤ → ℕ → ℕ → Column
-table_entry table ids start i = get_or table (nat_abs (id_at ids start i)) no_column
+abbrev pub table_entry : List Column → List ℤ → ℕ → Column
+table_entry table ids i = get_or table (nat_abs (id_at ids i)) no_column
 
 -- the child slot of slot i, where the offsets start at place `from`
 abbrev pub child_slot : Layout → List ℤ → ℕ → ℕ → ℕ
 child_slot layout offsets from i = by_layout layout i (nat_abs (get_or offsets (from + i) (pos 0)))
 
 -- Gather: the entry's bit
-unfoldable pub gathered_at : List Column → Buffers → List ℤ → ℕ → (ℕ → ℕ) → ℕ → Bool
-gathered_at table words ids start slot i = present (table_entry table ids start i) words (slot i)
+unfoldable pub gathered_at : List Column → Buffers → List ℤ → (ℕ → ℕ) → ℕ → Bool
+gathered_at table words ids slot i = present (table_entry table ids i) words (slot i)
 
 -- a dense union's offsets are lent, and none is negative
 abbrev pub Reach : Layout → List ℤ → ℕ → ℕ → Type 0
 Reach layout offsets from len =
     layout ≡ Dense → (from + len ≤ length offsets) × ((i : ℕ) → i < len → T (non_neg (get_or offsets (from + i) (pos 0))))
 
--- what a lookup needs: type ids and offsets are lent and not negative, and the entry of each slot has its child slot
-pub record Gathers (table : List Column) (words : Buffers) (ids : List ℤ) (start : ℕ) (layout : Layout) (offsets : List ℤ) (from len : ℕ) : Type 0 where
-  pub lent : start + len ≤ length ids
-  pub reach : Reach layout offsets from len
-  pub plain : (i : ℕ) → i < len → T (non_neg (id_at ids start i))
-  pub within : (i : ℕ) → i < len → (child_slot layout offsets from i < (table_entry table ids start i).slots) × (presence_in words (table_entry table ids start i) ≡ true)
+-- what a lookup needs: no type id is negative, the offsets are lent and not negative, and the entry of each slot has its child slot
+pub record Gathers (table : List Column) (words : Buffers) (ids : List ℤ) (layout : Layout) (from : ℕ) : Type 0 where
+  pub plain : Plain ids
+  pub reach : Reach layout words.offsets from (length ids)
+  pub within : (i : ℕ) → i < length ids → (child_slot layout words.offsets from i < (table_entry table ids i).slots) × (presence_in words (table_entry table ids i) ≡ true)

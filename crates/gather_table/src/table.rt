@@ -1,70 +1,57 @@
 // Gather: a table with one entry to each type id, read as an unsigned byte, and a bit looked up for each slot.
-ghost use Rattle.std.specs.Prelude.{◌≡◌, ◌^◌, ◌<◌, ◌≤◌, length};
+ghost use Rattle.std.specs.Prelude.{◌≡◌, ◌≤◌, length};
 ghost use Rattle.bitmap.specs.Bits.{words_for};
-ghost use Rattle.array_columns.specs.Buffers.{only_words};
-ghost use Rattle.mask_words.specs.Steps.{in_taken, words_of, TakenNamed};
+ghost use Rattle.mask_words.specs.Steps.{columns_at, words_of, TakenNamed};
 ghost use Rattle.gather_table.specs.Table.{table_of, child_slot, gathered_at, Gathers};
 
 use array_columns::slots::child_slot;
-use array_columns::{Column, Layout, presence, questions};
-use mask_words::TakenFields;
+use array_columns::{Buffers, Column, Layout};
 
-// The columns with a null, each at its id. Any other entry has no null, and no slot is past it.
-pub fn fill(columns: [Column; 128], t: TakenFields) -> [Column; 256]
-    requires { TakenNamed columns t }
-    ensures { result ≡ table_of (in_taken columns t) }
+// The columns at some places, those with a null, each at its id. Any other entry has no null, and no slot is past it.
+pub fn fill(columns: &[Column], places: &[u8]) -> [Column; 256]
+    requires { TakenNamed columns.now places.now }
+    ensures { result ≡ table_of (columns_at columns.now places.now) }
 {
-    let mut without = questions::no_column();
-    without.slots = 0xffff_ffff;
+    let without = Column {
+        slots: u32::MAX,
+        ..Column::zeros()
+    };
     let mut table = [without; 256];
-    let used = t.count;
-    let mut q: usize = 0;
-    while q < used {
-        let place = t.places[q] as usize;
-        let at = t.ids[q] as usize;
-        let c = columns[place];
-        table[at] = c;
-        q += 1;
+    for place in places {
+        let c = columns[*place as usize];
+        table[c.id as usize] = c;
     }
     table
 }
 
-// The mask by gathering: each slot's bit is looked up by itself. Later words keep what they have. Both loops stand here, since a call
-// for each word would copy the table.
+// The mask by gathering: each slot's bit is looked up by itself. Later words keep what they have. `lent`, `ids` and `out` stand
+// apart, as in `mask_words`.
+#[tactic(auto, using(mask_words::proofs::Writing::word_starts))]
 pub fn write_gathered(
-    table: [Column; 256],
-    values: &[u64],
-    masks: &[u64],
+    table: &[Column; 256],
+    lent: &Buffers,
     ids: &[i8],
-    start: usize,
     layout: Layout,
-    offsets: &[i32],
     at: usize,
-    len: usize,
     out: &mut [u64],
 )
-    requires len_bound { (len < 2 ^ 63) × (words_for len ≤ length out.old) }
-    requires gathers { Gathers table (only_words values.now masks.now) ids.now start layout offsets.now at len }
-    ensures { out.new ≡ words_of len (gathered_at table (only_words values.now masks.now) ids.now start (child_slot layout offsets.now at)) out.old }
+    requires room { words_for (length ids.now) ≤ length out.old }
+    requires gathers { Gathers table.now lent.now ids.now layout at }
+    ensures { out.new ≡ words_of (length ids.now) (gathered_at table.now lent.now ids.now (child_slot layout lent.now.offsets at)) out.old }
 {
-    let words = bitmap::words_for(len);
-    let mut k: usize = 0;
-    while k < words {
-        let done = 64 * k;
-        let n = bitmap::span(len - done);
+    let words = bitmap::words_for(ids.len());
+    for (k, word) in out[..words].iter_mut().enumerate() {
+        let rest = &ids[64 * k..];
+        let run = &rest[..bitmap::span(rest.len())];
         let mut x: u64 = 0;
-        let mut j: usize = 0;
-        while j < n {
-            let i = done + j;
-            let t = ids[start + i] as usize;
-            let e = table[t];
-            let p = child_slot(layout, offsets, at, i);
-            if presence::is_present(e, values, masks, p) {
+        for (j, id) in run.iter().enumerate() {
+            let i = 64 * k + j;
+            let e = &table[*id as usize];
+            let p = child_slot(layout, lent.offsets, at, i);
+            if e.is_present(lent, p) {
                 x |= 1u64 << j;
             }
-            j += 1;
         }
-        out[k] = x;
-        k += 1;
+        *word = x;
     }
 }

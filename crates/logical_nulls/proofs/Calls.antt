@@ -6,20 +6,19 @@ use Prim.Native.Nat.{ℕ, zero, suc, ◌≤◌, ◌<◌}
 use native.Mathlib.Omega.{arith}
 use borrow.Author.Tests.{eqb-true, le-leb, lt-leb, leb-true}
 use lib.Dec.{eqb, leb}
-use lib.IntN.{ℤ}
 use lib.ListN.{length, take}
+use Rattle.std.specs.Prelude.{Ok, Err, Some, None}
 use Rattle.bitmap.specs.Bits.{count, words_for, written}
-use Rattle.bitmap.proofs.Words.{count_ext}
 use Rattle.bitmap.proofs.Tables.{both}
-use Rattle.bitmap.proofs.Setting.{written_ext}
 use Rattle.array_columns.specs.declared.Column.{Column}
+use Rattle.array_columns.specs.declared.Refusal.{Refusal}
 use Rattle.array_columns.specs.declared.Layout.{Layout}
 use Rattle.array_columns.specs.declared.Layout.TheVariants.{Sparse, Dense}
 use Rattle.union_array.specs.declared.UnionArray.{UnionArray}
 use Rattle.union_array.specs.Types.{by_layout}
-use Rattle.array_columns.specs.Buffers.{Buffers, buffers_of, only_words, amounts_of}
-use Rattle.array_columns.specs.Refusal.{no, ◌then◌, if_yes}
-use Rattle.union_array.specs.Slots.{in_use, all, child_at, slot_at, null_in, slot_null}
+use Rattle.array_columns.specs.Buffers.{Buffers, amounts_of}
+use Rattle.array_columns.specs.Refusal.{no, ◌then◌, if_yes, refusal_number}
+use Rattle.union_array.specs.Slots.{in_use, all, slot_null}
 use Rattle.union_array.specs.Questions.{checked, column_in, presence_in}
 use Rattle.array_columns.proofs.Columns.{all_less}
 use Rattle.array_columns.proofs.Present.{presence_in_lem}
@@ -30,37 +29,88 @@ use Rattle.null_strategy.specs.declared.Route.TheVariants.{Absent, OneField, All
 use Rattle.null_strategy.specs.Route.{is_absent, is_all_null, present_on, sparse_route, with_nulls, fully_nulls, route_of}
 use Rattle.null_strategy.specs.declared.Fields.{Fields}
 use Rattle.null_strategy.specs.Fields.{fields_of}
-use Rattle.null_strategy.proofs.FieldStates.{some_words, full_words}
 use Rattle.null_strategy.proofs.Choosing.{sparse_is}
-use Rattle.logical_nulls.specs.Mask.{LogicalNulls, SparseStrategy, Gather, SkipOne, SkipWithoutNulls, SkipFullyNull, NullsAnswer, Masked, numbers_of, masked, with_words, refused_with, not_masked, masked_by, answer_on, question13, question14, applies, may_run, logical_nulls_of, strategy_route, strategy_of}
-use Rattle.logical_nulls.specs.Ready.{reads, Ready, no_mask}
-use Rattle.logical_nulls.proofs.Masks.{null_same}
+use Rattle.null_strategy.proofs.Settings.{not_0}
+use Rattle.logical_nulls.specs.Mask.{LogicalNulls, SparseStrategy, Gather, SkipOne, SkipWithoutNulls, SkipFullyNull, Masked, numbers_of, masked, with_words, not_masked, masked_by, answer_on, question13, question14, nulls_checked, strategy_checked, applies, may_run, logical_nulls_of, strategy_route, strategy_of}
+use Rattle.logical_nulls.specs.Ready.{Ready}
 
--- ---- the answer
-
+-- the answer on a route: with the null count where a mask is present, else with none
 module _ (route : Route) (nulls : ℕ) where
-  pub answer_yes : (b : Bool) → b ≡ present_on route nulls → b ≡ true
-      → numbers_of (record { nulls = nulls; refusal = 0; route = route; present = true }) ≡ answer_on route nulls
+  pub answer_yes : (b : Bool) → b ≡ present_on route nulls → b ≡ true → numbers_of (Ok (record { null_count = Some nulls; route = route })) ≡ answer_on route nulls
   answer_yes b e t = rw (sym e ∙ t)
 
-  pub answer_no : (b : Bool) → b ≡ present_on route nulls → b ≡ false → numbers_of (no_mask 0 route) ≡ answer_on route nulls
+  pub answer_no : (b : Bool) → b ≡ present_on route nulls → b ≡ false → numbers_of (Ok (record { null_count = None; route = route })) ≡ answer_on route nulls
   answer_no b e t = rw (sym e ∙ t)
 
--- ---- the refusals
+-- ---- three questions in turn, by their numbers, and x if all are answered yes
 
--- three questions in turn, by their numbers, and x if all are answered yes
 abbrev in_turn : ℕ → ℕ → ℕ → Masked → List ℕ → Masked
 in_turn a b c x out = if_yes (a then b then c) x (not_masked (a then b then c) out)
 
-module _ (a b c : ℕ) (x : Masked) (out : List ℕ) (e : a ≡ 0) where
-  at_next : (k : ℕ) (r : LogicalNulls) → b ≡ suc k → numbers_of r ≡ refused_with (suc k) → with_words r out ≡ in_turn a b c x out
-  at_next k r f p = rw (e, f) (ap (λ (y : NullsAnswer). masked y out) p)
+-- the first no is a refusal's number
+first_no : (t n : ℕ) (x : Masked) (out : List ℕ) → (n ≡ 0 → ⊥) → t ≡ n → not_masked n out ≡ if_yes t x (not_masked t out)
+first_no t zero x out h e = absurd (h refl)
+first_no t (suc n) x out h e = rw e
 
-  at_last : (k : ℕ) (r : LogicalNulls) → b ≡ 0 → c ≡ suc k → numbers_of r ≡ refused_with (suc k) → with_words r out ≡ in_turn a b c x out
-  at_last k r f g p = rw (e, f, g) (ap (λ (y : NullsAnswer). masked y out) p)
+refused : (a b c n : ℕ) (x : Masked) (out : List ℕ) → (n ≡ 0 → ⊥) → (a then b then c) ≡ n → not_masked n out ≡ in_turn a b c x out
+refused a b c n x out h e = first_no (a then b then c) n x out h e
 
-  at_none : b ≡ 0 → c ≡ 0 → x ≡ in_turn a b c x out
-  at_none f g = rw (e, f, g)
+then_first : (a b n : ℕ) → (n ≡ 0 → ⊥) → n ≡ a → (a then b) ≡ n
+then_first zero b n h e = absurd (h e)
+then_first (suc a) b n h e = sym e
+
+module _ (a : UnionArray) (m : Buffers) (out : List ℕ) where
+  pub too_few : (n : ℕ) → n ≡ words_for a.count → length out < n → question13 a (length out) ≡ false
+  too_few n e h = lt-leb (words_for a.count) (length out) (omega arith)
+
+  pub enough : (n : ℕ) → n ≡ words_for a.count → n ≤ length out → question13 a (length out) ≡ true
+  enough n e h = le-leb (words_for a.count) (length out) (omega arith)
+
+  module _ (cost : ℕ) where
+    pub mask_unchecked : (r : Refusal) → refusal_number r ≡ checked a m → with_words (Err r) out ≡ logical_nulls_of a m cost out
+    unfolding logical_nulls_of
+    mask_unchecked r e =
+        first_no (nulls_checked a m cost (length out)) (refusal_number r) (masked_by a m (route_of a m cost) out) out (not_0 r)
+        (then_first (checked a m) _ (refusal_number r) (not_0 r) e)
+
+    module _ (e : checked a m ≡ 0) where
+      pub mask_12 : (r : Refusal) → setting_number (setting_of cost) ≡ refusal_number r → with_words (Err r) out ≡ logical_nulls_of a m cost out
+      unfolding logical_nulls_of
+      mask_12 r f =
+          refused (checked a m) (setting_number (setting_of cost)) _ (refusal_number r) _ out (not_0 r)
+          (rw e (then_first (setting_number (setting_of cost)) _ (refusal_number r) (not_0 r) (sym f)))
+
+      module _ (f : setting_number (setting_of cost) ≡ 0) where
+        pub mask_13 : (r : Refusal) → refusal_number r ≡ 13 → question13 a (length out) ≡ false → with_words (Err r) out ≡ logical_nulls_of a m cost out
+        unfolding logical_nulls_of
+        mask_13 r n g = refused (checked a m) (setting_number (setting_of cost)) _ (refusal_number r) _ out (not_0 r) (rw (e, f, g) (sym n))
+
+        pub mask_taken : question13 a (length out) ≡ true → masked_by a m (route_of a m cost) out ≡ logical_nulls_of a m cost out
+        unfolding logical_nulls_of
+        mask_taken g = rw (e, f, g)
+
+  module _ (s : SparseStrategy) where
+    pub strategy_unchecked : (r : Refusal) → refusal_number r ≡ checked a m → with_words (Err r) out ≡ strategy_of a m s out
+    unfolding strategy_of
+    strategy_unchecked r e =
+        first_no (strategy_checked a m s (length out)) (refusal_number r) (masked_by a m (strategy_route s) out) out (not_0 r)
+        (then_first (checked a m) _ (refusal_number r) (not_0 r) e)
+
+    module _ (e : checked a m ≡ 0) where
+      pub strategy_14 : (r : Refusal) → refusal_number r ≡ 14 → question14 s a m ≡ false → with_words (Err r) out ≡ strategy_of a m s out
+      unfolding strategy_of
+      strategy_14 r n g =
+          refused (checked a m) (no 14 (question14 s a m)) (no 13 (question13 a (length out))) (refusal_number r) (masked_by a m (strategy_route s) out) out (not_0 r) (rw (e, g) (sym n))
+
+      module _ (f : question14 s a m ≡ true) where
+        pub strategy_13 : (r : Refusal) → refusal_number r ≡ 13 → question13 a (length out) ≡ false → with_words (Err r) out ≡ strategy_of a m s out
+        unfolding strategy_of
+        strategy_13 r n g =
+            refused (checked a m) (no 14 (question14 s a m)) (no 13 (question13 a (length out))) (refusal_number r) (masked_by a m (strategy_route s) out) out (not_0 r) (rw (e, f, g) (sym n))
+
+        pub strategy_taken : question13 a (length out) ≡ true → masked_by a m (strategy_route s) out ≡ strategy_of a m s out
+        unfolding strategy_of
+        strategy_taken g = rw (e, f, g)
 
 -- on route 0 the number of nulls does not matter
 absent_answer : (route : Route) (n : ℕ) → is_absent route ≡ true → answer_on route 0 ≡ answer_on route n
@@ -72,68 +122,12 @@ absent_answer routeSkipOne n e = absurd (false≢true e)
 absent_answer routeSkipWithout n e = absurd (false≢true e)
 absent_answer routeSkipFully n e = absurd (false≢true e)
 
-module _ (a : UnionArray) (m : Buffers) (out : List ℕ) where
-  pub too_few : (n : ℕ) → n ≡ words_for a.count → length out < n → no 13 (question13 a (length out)) ≡ 13
-  too_few n e h = ap (no 13) (lt-leb (words_for a.count) (length out) (omega arith))
-
-  pub enough : (n : ℕ) → n ≡ words_for a.count → n ≤ length out → no 13 (question13 a (length out)) ≡ 0
-  enough n e h = ap (no 13) (le-leb (words_for a.count) (length out) (omega arith))
-
-  module _ (cost : ℕ) where
-    pub mask_unchecked : (n : ℕ) (r : LogicalNulls) → n ≡ checked a m → (n ≡ 0 → ⊥) → numbers_of r ≡ refused_with n → with_words r out ≡ logical_nulls_of a m cost out
-    unfolding logical_nulls_of
-    mask_unchecked zero r e h p = absurd (h refl)
-    mask_unchecked (suc n) r e h p = rw (sym e) (ap (λ (y : NullsAnswer). masked y out) p)
-
-    module _ (e : checked a m ≡ 0) where
-      pub mask_12 : (r : LogicalNulls) → setting_number (setting_of cost) ≡ 12 → numbers_of r ≡ refused_with 12 → with_words r out ≡ logical_nulls_of a m cost out
-      unfolding logical_nulls_of
-      mask_12 r f = at_next (checked a m) _ _ _ out e 11 r f
-
-      pub mask_13 : (r : LogicalNulls) → setting_number (setting_of cost) ≡ 0 → no 13 (question13 a (length out)) ≡ 13 → numbers_of r ≡ refused_with 13 → with_words r out ≡ logical_nulls_of a m cost out
-      unfolding logical_nulls_of
-      mask_13 r f g = at_last (checked a m) _ _ _ out e 12 r f g
-
-      pub mask_taken : setting_number (setting_of cost) ≡ 0 → no 13 (question13 a (length out)) ≡ 0 → masked_by a m (route_of a m cost) out ≡ logical_nulls_of a m cost out
-      unfolding logical_nulls_of
-      mask_taken f g = at_none (checked a m) _ _ _ out e f g
-
-  -- route 0
-  pub mask_absent : (route : Route) (r : LogicalNulls) → is_absent route ≡ true → numbers_of r ≡ answer_on route 0 → with_words r out ≡ masked_by a m route out
-  unfolding masked_by
-  mask_absent route r e p =
-      ap₂ masked (p ∙ absent_answer route (count a.count (slot_null a m)) e) (sym (ap (λ (b : Bool). cond b out (written a.count (slot_null a m) out)) e))
-
-  module _ (s : SparseStrategy) where
-    pub strategy_unchecked : (n : ℕ) (r : LogicalNulls) → n ≡ checked a m → (n ≡ 0 → ⊥) → numbers_of r ≡ refused_with n → with_words r out ≡ strategy_of a m s out
-    unfolding strategy_of
-    strategy_unchecked zero r e h p = absurd (h refl)
-    strategy_unchecked (suc n) r e h p = rw (sym e) (ap (λ (y : NullsAnswer). masked y out) p)
-
-    module _ (e : checked a m ≡ 0) where
-      pub strategy_14 : (r : LogicalNulls) → question14 s a m ≡ false → numbers_of r ≡ refused_with 14 → with_words r out ≡ strategy_of a m s out
-      unfolding strategy_of
-      strategy_14 r f = at_next (checked a m) _ _ _ out e 13 r (ap (no 14) f)
-
-      pub strategy_13 : (r : LogicalNulls) → question14 s a m ≡ true → no 13 (question13 a (length out)) ≡ 13 → numbers_of r ≡ refused_with 13 → with_words r out ≡ strategy_of a m s out
-      unfolding strategy_of
-      strategy_13 r f g = at_last (checked a m) _ _ _ out e 12 r (ap (no 14) f) g
-
-      pub strategy_taken : question14 s a m ≡ true → no 13 (question13 a (length out)) ≡ 0 → masked_by a m (strategy_route s) out ≡ strategy_of a m s out
-      unfolding strategy_of
-      strategy_taken f g = at_none (checked a m) _ _ _ out e (ap (no 14) f) g
-
--- ---- names do not matter
-
-pub masked_same : (a : UnionArray) (ids offsets : List ℤ) (values names masks : List ℕ) (route : Route) (out : List ℕ)
-    → masked_by a (reads ids offsets values masks) route out ≡ masked_by a (buffers_of ids offsets values masks names) route out
-unfolding masked_by slot_null
-masked_same a ids offsets values names masks route out =
-    ap₂ (λ (n : ℕ) (w : List ℕ). masked (answer_on route n) (cond (is_absent route) out w)) (count_ext a.count _ _ (λ i h. same i)) (written_ext a.count _ _ out (λ i h. same i))
-  where
-    same : (i : ℕ) → null_in (child_at a (reads ids offsets values masks) i) (reads ids offsets values masks) (slot_at a (reads ids offsets values masks) i)
-        ≡ null_in (child_at a (buffers_of ids offsets values masks names) i) (buffers_of ids offsets values masks names) (slot_at a (buffers_of ids offsets values masks names) i)
-    same i = sym (null_same ids offsets values names masks (child_at a (reads ids offsets values masks) i) (slot_at a (reads ids offsets values masks) i))
+-- route 0
+pub mask_absent : (a : UnionArray) (m : Buffers) (out : List ℕ) (route : Route) (x : LogicalNulls) → is_absent route ≡ true → numbers_of (Ok x) ≡ answer_on route 0
+    → with_words (Ok x) out ≡ masked_by a m route out
+unfolding masked_by
+mask_absent a m out route x e p =
+    ap₂ masked (p ∙ absent_answer route (count a.count (slot_null a m)) e) (sym (ap (λ (b : Bool). cond b out (written a.count (slot_null a m) out)) e))
 
 -- ---- what a route rests on
 
@@ -172,37 +166,28 @@ module _ (a : UnionArray) (m : Buffers) (gather : ℕ) where
       by (suc n) e = omega arith
 
 -- what the states need
-pub fields_ok : (a : UnionArray) (m : Buffers) → checked a m ≡ 0 → (a.fields ≤ 128) × (all (presence_in (only_words m.values m.masks)) (in_use a) ≡ true)
+pub fields_ok : (a : UnionArray) (m : Buffers) → checked a m ≡ 0 → (a.fields ≤ 128) × (all (presence_in m) (in_use a) ≡ true)
+unfolding presence_in
 fields_ok a m e =
     let y = (all_accepted a m e).array in
-    (y.few, all_less (column_in (amounts_of m)) (presence_in (only_words m.values m.masks)) (in_use a) (presence_in_lem m) y.parts)
+    (y.few, all_less (column_in (amounts_of m)) (presence_in m) (in_use a) (presence_in_lem m) y.parts)
 
 pub counted_ok : (a : UnionArray) (m : Buffers) → checked a m ≡ 0 → a.count ≤ 65536
 counted_ok a m e = (all_accepted a m e).array.count
 
-module _ (a : UnionArray) (fs : Fields) (ids offsets : List ℤ) (values masks names : List ℕ) (out : List ℕ) where
-  abbrev m : Buffers
-  m = buffers_of ids offsets values masks names
-
+module _ (a : UnionArray) (fs : Fields) (m : Buffers) (out : List ℕ) (c : checked a m ≡ 0) (e : fs ≡ fields_of a m) (n : ℕ) (q : n ≡ words_for a.count) (w : n ≤ length out) where
   -- before the words of the null mask
-  pub mask_ready : (gather n : ℕ) (route : Route) → checked a m ≡ 0 → fs ≡ fields_of a (only_words values masks) → n ≡ words_for a.count → n ≤ length out → route ≡ route_of a m gather
-      → is_absent route ≡ false → Ready a fs route ids offsets values masks out × (is_absent route ≡ false)
-  mask_ready gather n route c e q w r h = (
+  pub mask_ready : (gather : ℕ) (route : Route) → route ≡ route_of a m gather → is_absent route ≡ false → Ready a fs route m out × (is_absent route ≡ false)
+  mask_ready gather route r h = (
     record {
-      names = names;
       accepted = c;
       fields = e;
       lent = omega arith;
       some = route_some a m gather (sym (ap is_absent r) ∙ h);
-      full = λ z. full_words a m ∙ route_full a m gather (sym (ap is_all_null r) ∙ z);
+      full = λ z. route_full a m gather (sym (ap is_all_null r) ∙ z);
     },
     h,
   )
-
-  -- question 14
-  pub may_run_lem : (s : SparseStrategy) → fs ≡ fields_of a (only_words values masks) → may_run s a.layout fs.count fs.some ≡ question14 s a m
-  unfolding question14
-  may_run_lem s e = ap (λ (x : Fields). may_run s a.layout x.count x.some) e ∙ ap (may_run s a.layout a.fields) (some_words a m)
 
   strategy_kind : (s : SparseStrategy) → (is_all_null (strategy_route s) ≡ false) × (is_absent (strategy_route s) ≡ false)
   strategy_kind Gather = (refl, refl)
@@ -211,12 +196,10 @@ module _ (a : UnionArray) (fs : Fields) (ids offsets : List ℤ) (values masks n
   strategy_kind SkipFullyNull = (refl, refl)
 
   -- before the words of a named strategy
-  pub strategy_ready : (s : SparseStrategy) (route : Route) (n : ℕ) → checked a m ≡ 0 → fs ≡ fields_of a (only_words values masks) → n ≡ words_for a.count → n ≤ length out
-      → route ≡ strategy_route s → question14 s a m ≡ true → Ready a fs route ids offsets values masks out × (is_absent route ≡ false)
+  pub strategy_ready : (s : SparseStrategy) (route : Route) → route ≡ strategy_route s → question14 s a m ≡ true → Ready a fs route m out × (is_absent route ≡ false)
   unfolding question14 may_run
-  strategy_ready s route n c e q w r h = (
+  strategy_ready s route r h = (
     record {
-      names = names;
       accepted = c;
       fields = e;
       lent = omega arith;
@@ -226,8 +209,12 @@ module _ (a : UnionArray) (fs : Fields) (ids offsets : List ℤ) (values masks n
     ap is_absent r ∙ (strategy_kind s).1,
   )
 
--- ---- question 14, a case at a time
+-- question 14, by the fields
+pub may_run_lem : (a : UnionArray) (fs : Fields) (m : Buffers) (s : SparseStrategy) → fs ≡ fields_of a m → may_run s a.layout fs.count fs.some ≡ question14 s a m
+unfolding question14
+may_run_lem a fs m s e = ap (λ (x : Fields). may_run s a.layout x.count x.some) e
 
+-- SkipOne: for a sparse union where M = N, never for a dense one
 pub one_sparse : (l : Layout) (n m : ℕ) (b : Bool) → b ≡ by_layout l true false → b ≡ true → eqb m n ≡ applies SkipOne l n m
 one_sparse Sparse n m b e t = refl
 one_sparse Dense n m b e t = absurd (false≢true (sym e ∙ t))
@@ -235,12 +222,3 @@ one_sparse Dense n m b e t = absurd (false≢true (sym e ∙ t))
 pub one_dense : (l : Layout) (n m : ℕ) (b : Bool) → b ≡ by_layout l true false → b ≡ false → false ≡ applies SkipOne l n m
 one_dense Sparse n m b e t = absurd (false≢true (sym t ∙ e))
 one_dense Dense n m b e t = refl
-
-module _ (s : SparseStrategy) (l : Layout) (n m : ℕ) where
-  pub too_small : n < 2 → false ≡ may_run s l n m
-  unfolding may_run
-  too_small h = rw (lt-leb 2 n h)
-
-  pub large_enough : 2 ≤ n → applies s l n m ≡ may_run s l n m
-  unfolding may_run
-  large_enough h = rw (le-leb 2 n h)

@@ -29,10 +29,10 @@ use Rattle.array_columns.proofs.Present.{no_mask_lem, presence_accepted, no_bits
 use Rattle.null_strategy.specs.Fields.{has_nulls, state_of}
 use Rattle.null_strategy.proofs.FieldStates.{all-present}
 use Rattle.mask_words.specs.declared.Taken.TheVariants.{WithNulls}
-use Rattle.mask_words.specs.Steps.{taken_of}
+use Rattle.mask_words.specs.Steps.{taken_of, id_at}
 use Rattle.mask_words.proofs.ValidIds.{valid_plain}
 use Rattle.gather_table.specs.Table.{without_nulls, stored, table_of, table_entry, gathered_at, Gathers}
-use Rattle.logical_nulls.proofs.Strategies.{its_child, its_slot, its_bit}
+use Rattle.logical_nulls.proofs.Strategies.{OwnIds, its_child, its_slot, its_bit}
 
 -- ---- the entry of an id
 
@@ -119,7 +119,7 @@ no_entry_lem zero k h = absurd (not-suc-le-zero h)
 no_entry_lem (suc n) zero h = refl
 no_entry_lem (suc n) (suc k) h = no_entry_lem n k (le_of_suc-le-suc h)
 
-module _ (a : UnionArray) (m : Buffers) (y : AllAccepted a m) (i : ℕ) (h : i < a.count) where
+module _ (a : UnionArray) (m : Buffers) (y : AllAccepted a m) (ids : List ℤ) (o : OwnIds a m ids) (i : ℕ) (h : i < a.count) where
   abbrev c : Column
   c = or_none (child_at a m i)
 
@@ -127,14 +127,17 @@ module _ (a : UnionArray) (m : Buffers) (y : AllAccepted a m) (i : ℕ) (h : i <
   child_ok = child_accepted a m y.array i (y.slot i h)
 
   -- the id of a slot is its child's
-  pub id_ok : T (non_neg (type_id_at a m i)) × (nat_abs (type_id_at a m i) < 128)
-  id_ok = valid_plain (type_id_at a m i) (ap valid_id (sym (found_id (in_use a) (type_id_at a m i) c (its_child a m y i h))) ∙ child_ok.valid)
+  type_id_ok : T (non_neg (type_id_at a m i)) × (nat_abs (type_id_at a m i) < 128)
+  type_id_ok = valid_plain (type_id_at a m i) (ap valid_id (sym (found_id (in_use a) (type_id_at a m i) c (its_child a m y i h))) ∙ child_ok.valid)
 
-  entry_is : table_entry (table_of (taken_of WithNulls m (in_use a))) m.ids a.start i ≡ cond (has_nulls (state_of m c)) c without_nulls
+  pub id_ok : T (non_neg (id_at ids i)) × (nat_abs (id_at ids i) < 128)
+  id_ok = rw (o.own i h) type_id_ok
+
+  entry_is : table_entry (table_of (taken_of WithNulls m (in_use a))) ids i ≡ cond (has_nulls (state_of m c)) c without_nulls
   unfolding table_of
   entry_is =
-      entry_of_lem m (type_id_at a m i) id_ok.0 (in_use a) (replicate 256 without_nulls) c y.array.valid y.array.alone (length-replicate 256 without_nulls) (its_child a m y i h)
-      (no_entry_lem 256 (nat_abs (type_id_at a m i)) (omega (arith, id_ok.1)))
+      entry_of_lem m (id_at ids i) id_ok.0 (in_use a) (replicate 256 without_nulls) c y.array.valid y.array.alone (length-replicate 256 without_nulls)
+      (ap (column_of (in_use a)) (o.own i h) ∙ its_child a m y i h) (no_entry_lem 256 (nat_abs (id_at ids i)) (omega (arith, id_ok.1)))
 
   -- an entry has the slot, and its presence can be read
   entry_fits : (b : Bool) → (slot_at a m i < (cond b c without_nulls).slots) × (presence_in m (cond b c without_nulls) ≡ true)
@@ -146,7 +149,7 @@ module _ (a : UnionArray) (m : Buffers) (y : AllAccepted a m) (i : ℕ) (h : i <
   entry_present true e = refl
   entry_present false e = sym (no_mask_lem without_nulls m refl (slot_at a m i)) ∙ sym (e refl)
 
-  pub gathered_is : gathered_at (table_of (taken_of WithNulls m (in_use a))) m m.ids a.start (slot_at a m) i ≡ not (slot_null a m i)
+  pub gathered_is : gathered_at (table_of (taken_of WithNulls m (in_use a))) m ids (slot_at a m) i ≡ not (slot_null a m i)
   unfolding gathered_at
   gathered_is =
       ap (λ (x : Column). present x m (slot_at a m i)) entry_is
@@ -161,15 +164,16 @@ child-plain z none e = absurd (false≢true e)
 child-plain z (some c) e = within-plain z c.slots e
 
 -- what the lookups need
-pub gathers : (a : UnionArray) (m : Buffers) → AllAccepted a m
-    → Gathers (table_of (taken_of WithNulls m (in_use a))) m m.ids a.start a.layout m.offsets a.offsets_start a.count
-gathers a m y = record {
-  lent = y.array.ids;
+pub gathers : (a : UnionArray) (m : Buffers) → AllAccepted a m → (ids : List ℤ) → OwnIds a m ids → Gathers (table_of (taken_of WithNulls m (in_use a))) m ids a.layout a.offsets_start
+gathers a m y ids o = record {
+  plain = λ i h. (id_ok a m y ids o i (omega (arith, o.long))).0;
   reach = λ e. (
-    y.array.offsets e,
+    omega (arith, y.array.offsets e, o.long),
     λ i h.
-        child-plain (offset_at a m i) (child_at a m i) (sym (ap (λ (l : Layout). by_layout l true (within_child (offset_at a m i) (child_at a m i))) e) ∙ (y.slot i h).fits),
+        child-plain (offset_at a m i) (child_at a m i)
+        (sym (ap (λ (l : Layout). by_layout l true (within_child (offset_at a m i) (child_at a m i))) e) ∙ (y.slot i (omega (arith, o.long))).fits),
   );
-  plain = λ i h. (id_ok a m y i h).0;
-  within = λ i h. subst (λ (f : Column). (slot_at a m i < f.slots) × (presence_in m f ≡ true)) (sym (entry_is a m y i h)) (entry_fits a m y i h (has_nulls (state_of m (or_none (child_at a m i)))));
+  within = λ i h.
+      let b : i < a.count = omega (arith, o.long) in
+      subst (λ (f : Column). (slot_at a m i < f.slots) × (presence_in m f ≡ true)) (sym (entry_is a m y ids o i b)) (entry_fits a m y ids o i b (has_nulls (state_of m (or_none (child_at a m i)))));
 }

@@ -3,10 +3,12 @@ use mathlib.Core.Path.{◌≡◌, refl, sym, ap, ap₂, ◌∙◌, subst}
 use mathlib.Core.Bool.{Bool, true, false, cond, not, ◌&&◌, ◌||◌, false≢true}
 use mathlib.Core.List.{List, [], ◌∷◌}
 use mathlib.Core.Option.{Option, some}
-use Prim.Native.Nat.{ℕ, ◌<◌}
+use Prim.Native.Nat.{ℕ, ◌+◌, ◌-◌, ◌≤◌, ◌<◌}
+use native.Mathlib.Omega.{arith}
 use borrow.Author.Tests.{not-false}
-use lib.IntN.{ℤ, nat_abs}
-use lib.ListN.{get_or, drop}
+use lib.IntN.{ℤ, pos, nat_abs}
+use lib.ListN.{get_or, take, drop, length, length-drop}
+use lib.Seq.{take_all, length-take-le, get_or-take, get_or-drop}
 use Rattle.bitmap.specs.Bits.{same_id}
 use Rattle.bitmap.proofs.Words.{or_false}
 use Rattle.bitmap.proofs.Ids.{same_id_eq, same_id_sym}
@@ -26,7 +28,7 @@ use Rattle.null_strategy.specs.Fields.{has_nulls, only_nulls, state_of}
 use Rattle.null_strategy.proofs.FieldStates.{all-present, none_present}
 use Rattle.mask_words.specs.declared.Taken.{Taken}
 use Rattle.mask_words.specs.declared.Taken.TheVariants.{All, WithNulls, NotFull}
-use Rattle.mask_words.specs.Steps.{any, takes, taken_of, skip_one_at, skip_without_at, skip_fully_at, step_at}
+use Rattle.mask_words.specs.Steps.{any, takes, taken_of, id_at, skip_one_at, skip_without_at, skip_fully_at, step_at}
 use Rattle.mask_words.proofs.Selecting.{any_ext, any_less}
 
 not_yes : (b : Bool) → not b ≡ true → b ≡ false
@@ -126,6 +128,21 @@ by_full : (u b : Bool) → (u ≡ false → b ≡ false) → (u && b) ≡ b
 by_full true b h = refl
 by_full false b h = sym (h refl)
 
+-- the type ids of an array's slots, in order
+pub record OwnIds (a : UnionArray) (m : Buffers) (ids : List ℤ) : Type 0 where
+  pub long : length ids ≡ a.count
+  pub own : (i : ℕ) → i < a.count → id_at ids i ≡ type_id_at a m i
+
+-- as they are cut from those that are lent
+abbrev pub ids_in : UnionArray → List ℤ → List ℤ
+ids_in a lent = take a.count (take (length lent - a.start) (drop a.start lent))
+
+pub own_ids : (a : UnionArray) (m : Buffers) (lent : List ℤ) → lent ≡ m.ids → a.start + a.count ≤ length m.ids → OwnIds a m (ids_in a lent)
+own_ids a m lent e h = rw (e, take_all (length m.ids - a.start) (drop a.start m.ids) (omega (arith, length-drop a.start m.ids))) (record {
+  long = length-take-le a.count (drop a.start m.ids) (omega (arith, length-drop a.start m.ids));
+  own = λ i b. get_or-take a.count (drop a.start m.ids) i (pos 0) b ∙ get_or-drop a.start m.ids i (pos 0);
+})
+
 -- a slot's bit, by its child
 module _ (a : UnionArray) (m : Buffers) (y : AllAccepted a m) (i : ℕ) (h : i < a.count) where
   pub its_child : column_of (in_use a) (type_id_at a m i) ≡ some (or_none (child_at a m i))
@@ -139,9 +156,12 @@ module _ (a : UnionArray) (m : Buffers) (y : AllAccepted a m) (i : ℕ) (h : i <
   its_bit = sym (ap (λ (o : Option Column). not (null_in o m (slot_at a m i))) its_child ∙ not_not (present (or_none (child_at a m i)) m (slot_at a m i)))
 
 -- a sparse slot is that slot of its child
-module _ (a : UnionArray) (m : Buffers) (y : AllAccepted a m) (e : a.layout ≡ Sparse) (i : ℕ) (h : i < a.count) where
+module _ (a : UnionArray) (m : Buffers) (y : AllAccepted a m) (ids : List ℤ) (o : OwnIds a m ids) (e : a.layout ≡ Sparse) (i : ℕ) (h : i < a.count) where
   abbrev child : Column
   child = or_none (child_at a m i)
+
+  found : column_of (in_use a) (id_at ids i) ≡ some (or_none (child_at a m i))
+  found = ap (column_of (in_use a)) (o.own i h) ∙ its_child a m y i h
 
   same_slot : slot_at a m i ≡ i
   same_slot = ap (λ (k : Layout). by_layout k i (nat_abs (offset_at a m i))) e
@@ -154,42 +174,41 @@ module _ (a : UnionArray) (m : Buffers) (y : AllAccepted a m) (e : a.layout ≡ 
 
   -- by the child alone: whether it is taken up, and whether it is present
   module _ (over : Taken) where
-    decided : (g : Column → Bool) → any (λ c. same_id (type_id_at a m i) c.id && g c) (in_use a) ≡ g (or_none (child_at a m i))
-    decided g = only (type_id_at a m i) g (in_use a) child y.array.alone (its_child a m y i h)
+    decided : (g : Column → Bool) → any (λ c. same_id (id_at ids i) c.id && g c) (in_use a) ≡ g (or_none (child_at a m i))
+    decided g = only (id_at ids i) g (in_use a) child y.array.alone found
 
-    selected_by : any (λ c. same_id (type_id_at a m i) c.id) (taken_of over m (in_use a)) ≡ takes over (state_of m (or_none (child_at a m i)))
+    selected_by : any (λ c. same_id (id_at ids i) c.id) (taken_of over m (in_use a)) ≡ takes over (state_of m (or_none (child_at a m i)))
     selected_by =
-        taken_any over m (λ c. same_id (type_id_at a m i) c.id) (in_use a)
-        ∙ any_ext _ (λ c. same_id (type_id_at a m i) c.id && takes over (state_of m c)) (in_use a) (λ c. swap (takes over (state_of m c)) (same_id (type_id_at a m i) c.id))
+        taken_any over m (λ c. same_id (id_at ids i) c.id) (in_use a)
+        ∙ any_ext _ (λ c. same_id (id_at ids i) c.id && takes over (state_of m c)) (in_use a) (λ c. swap (takes over (state_of m c)) (same_id (id_at ids i) c.id))
         ∙ decided (λ c. takes over (state_of m c))
 
-    present_by : any (λ c. same_id (type_id_at a m i) c.id && present c m i) (taken_of over m (in_use a))
+    present_by : any (λ c. same_id (id_at ids i) c.id && present c m i) (taken_of over m (in_use a))
         ≡ (takes over (state_of m (or_none (child_at a m i))) && present (or_none (child_at a m i)) m i)
     present_by =
-        taken_any over m (λ c. same_id (type_id_at a m i) c.id && present c m i) (in_use a)
-        ∙ any_ext _ (λ c. same_id (type_id_at a m i) c.id && (takes over (state_of m c) && present c m i)) (in_use a)
-        (λ c. swap3 (takes over (state_of m c)) (same_id (type_id_at a m i) c.id) (present c m i))
+        taken_any over m (λ c. same_id (id_at ids i) c.id && present c m i) (in_use a)
+        ∙ any_ext _ (λ c. same_id (id_at ids i) c.id && (takes over (state_of m c) && present c m i)) (in_use a)
+        (λ c. swap3 (takes over (state_of m c)) (same_id (id_at ids i) c.id) (present c m i))
         ∙ decided (λ c. takes over (state_of m c) && present c m i)
 
-  one_is : skip_one_at (taken_of All m (in_use a)) m m.ids a.start i ≡ not (slot_null a m i)
+  one_is : skip_one_at (taken_of All m (in_use a)) m ids i ≡ not (slot_null a m i)
   unfolding skip_one_at
   one_is =
-      ap (λ (l : List Column). skip_one_at l m m.ids a.start i) (taken_all m (in_use a))
-      ∙ first_else (type_id_at a m i) (λ c. present c m i) (in_use a) child y.array.alone (its_child a m y i h) ∙ bit_is
+      ap (λ (l : List Column). skip_one_at l m ids i) (taken_all m (in_use a)) ∙ first_else (id_at ids i) (λ c. present c m i) (in_use a) child y.array.alone found ∙ bit_is
 
-  without_is : skip_without_at (taken_of WithNulls m (in_use a)) m m.ids a.start i ≡ not (slot_null a m i)
+  without_is : skip_without_at (taken_of WithNulls m (in_use a)) m ids i ≡ not (slot_null a m i)
   unfolding skip_without_at
   without_is =
       ap₂ (λ (u v : Bool). u || not v) (present_by WithNulls) (selected_by WithNulls)
       ∙ by_use (has_nulls (state_of m child)) (present child m i) (all-present m child i slot_is) ∙ bit_is
 
-  fully_is : skip_fully_at (taken_of NotFull m (in_use a)) m m.ids a.start i ≡ not (slot_null a m i)
+  fully_is : skip_fully_at (taken_of NotFull m (in_use a)) m ids i ≡ not (slot_null a m i)
   unfolding skip_fully_at
   fully_is =
       present_by NotFull
       ∙ by_full (not (only_nulls (state_of m child))) (present child m i) (λ q. none_present m child i slot_is (not-false (only_nulls (state_of m child)) q)) ∙ bit_is
 
-  pub step_is : (over : Taken) → step_at over (taken_of over m (in_use a)) m m.ids a.start i ≡ not (slot_null a m i)
+  pub step_is : (over : Taken) → step_at over (taken_of over m (in_use a)) m ids i ≡ not (slot_null a m i)
   step_is All = one_is
   step_is WithNulls = without_is
   step_is NotFull = fully_is

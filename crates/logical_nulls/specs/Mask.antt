@@ -1,11 +1,13 @@
 -- The null mask and the named strategies: the answer, and the lent words at exit. A text in quotes is document 01's.
-use Rattle.std.specs.Prelude.{Bool, true, false, cond, ◌&&◌, List, ℕ, eqb, leb, length}
+use Rattle.std.specs.Prelude.{Bool, true, false, cond, ◌&&◌, List, ℕ, eqb, leb, length, Result, Ok, Err, Some, None}
 use Rattle.bitmap.specs.Bits.{count, words_for, written}
 use Rattle.array_columns.specs.declared.Layout.{Layout}
 use Rattle.union_array.specs.declared.UnionArray.{UnionArray}
 use Rattle.union_array.specs.Types.{by_layout}
 use Rattle.array_columns.specs.Buffers.{Buffers}
-use Rattle.array_columns.specs.Refusal.{no, ◌then◌, if_yes}
+use Rattle.array_columns.specs.declared.Refusal.{Refusal}
+use Rattle.array_columns.specs.Refusal.{no, ◌then◌, if_yes, refusal_number}
+use Rattle.std.specs.declared.option.Option as given
 use Rattle.union_array.specs.Slots.{slot_null}
 use Rattle.union_array.specs.Questions.{checked}
 use Rattle.null_strategy.specs.Setting.{setting_number, setting_of}
@@ -23,10 +25,6 @@ pub record NullsAnswer : Type 0 where
   pub route : ℕ
   pub present : Bool
 
--- the numbers of an answer of the code
-abbrev pub numbers_of : LogicalNulls → NullsAnswer
-numbers_of r = record { nulls = r.nulls; refusal = r.refusal; route = route_number r.route; present = r.present }
-
 -- the answer on a route, for a mask of so many nulls
 abbrev pub answer_on : Route → ℕ → NullsAnswer
 answer_on route nulls = record { nulls = cond (present_on route nulls) nulls 0; refusal = 0; route = route_number route; present = present_on route nulls }
@@ -34,6 +32,16 @@ answer_on route nulls = record { nulls = cond (present_on route nulls) nulls 0; 
 -- a refused call answers "all other answer fields 0"
 abbrev pub refused_with : ℕ → NullsAnswer
 refused_with n = record { nulls = 0; refusal = n; route = 0; present = false }
+
+-- an accepted answer of the code, with the null count of its mask if there is one
+abbrev pub accepted_nulls : Route → given.Option ℕ → NullsAnswer
+accepted_nulls route None = record { nulls = 0; refusal = 0; route = route_number route; present = false }
+accepted_nulls route (Some nulls) = record { nulls = nulls; refusal = 0; route = route_number route; present = true }
+
+-- of each case of the code's answer, document 01's numbers
+abbrev pub numbers_of : Result LogicalNulls Refusal → NullsAnswer
+numbers_of (Ok r) = accepted_nulls r.route r.null_count
+numbers_of (Err r) = refused_with (refusal_number r)
 
 -- the answer, and the lent words at exit
 pub record Masked : Type 0 where
@@ -45,7 +53,7 @@ abbrev pub masked : NullsAnswer → List ℕ → Masked
 masked answer out = record { answer = answer; out = out }
 
 -- with an answer of the code
-abbrev pub with_words : LogicalNulls → List ℕ → Masked
+abbrev pub with_words : Result LogicalNulls Refusal → List ℕ → Masked
 with_words r out = masked (numbers_of r) out
 
 -- 13. Enough words lent for the mask (also asked on routes 0 to 2)?

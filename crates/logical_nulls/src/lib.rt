@@ -6,10 +6,10 @@ pub mod mask;
 pub mod named;
 mod words;
 
-pub use null_strategy::{Processor, Route, Setting};
+pub use null_strategy::{Processor, Route};
 
 // A strategy for the words of a mask; all but Gather are for sparse unions.
-#[derive(Clone, Copy)]
+#[derive(Clone, Copy, Debug, PartialEq, Eq)]
 pub enum SparseStrategy {
     Gather,
     SkipOne,
@@ -17,11 +17,10 @@ pub enum SparseStrategy {
     SkipFullyNull,
 }
 
-// What the null mask and the named strategies answer, beside the words that they write.
-#[derive(Clone, Copy)]
+// What the null mask and the named strategies answer, beside the words that they write: how many nulls the mask has, if there is one,
+// and the route.
+#[derive(Clone, Copy, Debug, PartialEq, Eq)]
 pub struct LogicalNulls {
-    pub nulls: usize,
-    pub refusal: u8,
+    pub null_count: Option<usize>,
     pub route: Route,
-    pub present: bool,
 }

@@ -1,6 +1,7 @@
 -- The laws that the proofs of mask_words, and of the crates above, cite.
 pub mod Selecting
-pub mod StepWords
 pub mod ValidIds
-pub mod TakenUp
+pub mod StepWords
 pub mod Writing
+pub mod TakenUp
+pub mod Stepping

@@ -1,5 +1,5 @@
--- The bit of slot i by each strategy that selects by type ids, and words of such bits.
-use Rattle.std.specs.Prelude.{◌≡◌, Bool, true, false, cond, not, ◌&&◌, ◌||◌, List, [], ◌∷◌, ◌++◌, map, ℕ, zero, suc, ◌+◌, ◌-◌, ◌*◌, ◌%◌, ◌^◌, ◌≤◌, ◌<◌, T, ltb, ℤ, pos, nat_abs, get_or, take, drop, replicate, length}
+-- The bit of slot i by each strategy that selects by type ids, and words of such bits. The ids are those of the slots, in order.
+use Rattle.std.specs.Prelude.{◌≡◌, Bool, true, false, cond, not, ◌&&◌, ◌||◌, List, [], ◌∷◌, map, ℕ, zero, suc, ◌+◌, ◌-◌, ◌*◌, ◌%◌, ◌^◌, ◌≤◌, ◌<◌, T, ltb, ℤ, pos, get_or, drop, length}
 use Rattle.std.specs.Int.Bits.{bit_and, bit_or}
 use Rattle.std.specs.Int.Signed.{non_neg}
 use Rattle.bitmap.specs.Lists.{retable}
@@ -7,16 +7,16 @@ use Rattle.bitmap.specs.Bits.{pack, words_for, same_id, selection_of}
 use Rattle.array_columns.specs.declared.Column.{Column}
 use Rattle.array_columns.specs.Types.{no_column}
 use Rattle.array_columns.specs.Buffers.{Buffers}
-use Rattle.array_columns.specs.Slots.{present}
+use Rattle.array_columns.specs.Slots.{present, presence_chunk}
 use Rattle.array_columns.specs.Questions.{valid_id, presence_in}
 use Rattle.null_strategy.specs.declared.Route.{Route}
 use Rattle.null_strategy.specs.declared.Route.TheVariants.{Absent, OneField, AllNull, Gather, SkipOne, SkipWithoutNulls, SkipFullyNull}
 use Rattle.null_strategy.specs.declared.State.{State}
-use Rattle.null_strategy.specs.declared.FieldState.{FieldState}
-use Rattle.null_strategy.specs.Fields.{has_nulls, only_nulls, state_of}
+use Rattle.null_strategy.specs.declared.Fields.{Fields}
+use Rattle.null_strategy.specs.Fields.{has_nulls, only_nulls, state_of, in_list}
 pub use Rattle.mask_words.specs.declared.Taken.{Taken}
 pub use Rattle.mask_words.specs.declared.Taken.TheVariants.{All, WithNulls, NotFull}
-pub use Rattle.mask_words.specs.declared.TakenFields.{TakenFields}
+pub use Rattle.mask_words.specs.declared.FieldChunk.{FieldChunk}
 pub use Rattle.mask_words.specs.declared.Selection.{Selection}
 
 -- some column passes
@@ -54,37 +54,36 @@ over_of SkipWithoutNulls = WithNulls
 over_of SkipFullyNull = NotFull
 
 -- the type id of slot i
-abbrev pub id_at : List ℤ → ℕ → ℕ → ℤ
-id_at ids start i = get_or ids (start + i) (pos 0)
+abbrev pub id_at : List ℤ → ℕ → ℤ
+id_at ids i = get_or ids i (pos 0)
 
 -- slot i is one of these columns'
-abbrev pub selected_at : List Column → List ℤ → ℕ → ℕ → Bool
-selected_at cs ids start i = any (λ c. same_id (id_at ids start i) c.id) cs
+abbrev pub selected_at : List Column → List ℤ → ℕ → Bool
+selected_at cs ids i = any (λ c. same_id (id_at ids i) c.id) cs
 
 -- slot i is one of these columns', and present
-abbrev pub present_at : List Column → Buffers → List ℤ → ℕ → ℕ → Bool
-present_at cs words ids start i = any (λ c. same_id (id_at ids start i) c.id && present c words i) cs
+abbrev pub present_at : List Column → Buffers → List ℤ → ℕ → Bool
+present_at cs words ids i = any (λ c. same_id (id_at ids i) c.id && present c words i) cs
 
 -- SkipOne: of another column than the first and present, or of no other and in the first present
-unfoldable pub skip_one_at : List Column → Buffers → List ℤ → ℕ → ℕ → Bool
-skip_one_at cs words ids start i =
-    present_at (drop 1 cs) words ids start i || (not (selected_at (drop 1 cs) ids start i) && present (get_or cs 0 no_column) words i)
+unfoldable pub skip_one_at : List Column → Buffers → List ℤ → ℕ → Bool
+skip_one_at cs words ids i = present_at (drop 1 cs) words ids i || (not (selected_at (drop 1 cs) ids i) && present (get_or cs 0 no_column) words i)
 
 -- SkipWithoutNulls, of the columns with a null: of one and present, or of none
-unfoldable pub skip_without_at : List Column → Buffers → List ℤ → ℕ → ℕ → Bool
-skip_without_at cs words ids start i = present_at cs words ids start i || not (selected_at cs ids start i)
+unfoldable pub skip_without_at : List Column → Buffers → List ℤ → ℕ → Bool
+skip_without_at cs words ids i = present_at cs words ids i || not (selected_at cs ids i)
 
 -- SkipFullyNull, of the columns that are not fully null: of one, and present
-unfoldable pub skip_fully_at : List Column → Buffers → List ℤ → ℕ → ℕ → Bool
-skip_fully_at cs words ids start i = present_at cs words ids start i
+unfoldable pub skip_fully_at : List Column → Buffers → List ℤ → ℕ → Bool
+skip_fully_at cs words ids i = present_at cs words ids i
 
 -- the step by what it takes up
-abbrev pub step_at : Taken → List Column → Buffers → List ℤ → ℕ → ℕ → Bool
-step_at All cs words ids start i = skip_one_at cs words ids start i
-step_at WithNulls cs words ids start i = skip_without_at cs words ids start i
-step_at NotFull cs words ids start i = skip_fully_at cs words ids start i
+abbrev pub step_at : Taken → List Column → Buffers → List ℤ → ℕ → Bool
+step_at All cs words ids i = skip_one_at cs words ids i
+step_at WithNulls cs words ids i = skip_without_at cs words ids i
+step_at NotFull cs words ids i = skip_fully_at cs words ids i
 
--- ---- the same by words, from the ids of a run of n slots and the presence chunks of the columns that are taken up
+-- ---- the same by words, from the ids of a run of slots, and the ids and presence chunks of the fields that are taken up
 
 -- f 0, .., f (n - 1) joined by or
 unfoldable pub or_of : ℕ → (ℕ → ℕ) → ℕ
@@ -95,107 +94,101 @@ or_of (suc n) f = bit_or (or_of n f) (f n)
 abbrev pub inverse : ℕ → ℕ
 inverse x = (2 ^ 64 - 1) - x
 
--- the selection mask of field q
-abbrev pub field_mask : List ℕ → List ℤ → ℕ → ℕ → ℕ → ℕ
-field_mask fields ids s n q = selection_of ids s n (pos (get_or fields q 0))
+-- field q
+abbrev pub field_at : List FieldChunk → ℕ → FieldChunk
+field_at fields q = get_or fields q (record { id = pos 0; chunk = 0 })
 
--- of the fields from place `from` on: the slots that they have, and those of them that are present
-abbrev pub selected_from : List ℕ → List ℕ → ℕ → ℕ → List ℤ → ℕ → ℕ → Selection
-selected_from fields chunks from count ids s n = record {
-  selected = or_of (count - from) (λ q. field_mask fields ids s n (from + q));
-  present = or_of (count - from) (λ q. bit_and (field_mask fields ids s n (from + q)) (get_or chunks (from + q) 0));
+-- the selection mask of field q
+abbrev pub field_mask : List FieldChunk → List ℤ → ℕ → ℕ
+field_mask fields ids q = selection_of ids 0 (length ids) (field_at fields q).id
+
+-- of some fields: the slots that they have, and those of them that are present
+abbrev pub selected_of : List FieldChunk → List ℤ → Selection
+selected_of fields ids = record {
+  selected = or_of (length fields) (field_mask fields ids);
+  present = or_of (length fields) (λ q. bit_and (field_mask fields ids q) (field_at fields q).chunk);
 }
 
 -- SkipOne: of another field and present, or of no other field and in the first chunk
-unfoldable pub skip_one_word : List ℕ → List ℕ → ℕ → List ℤ → ℕ → ℕ → ℕ
-skip_one_word fields chunks count ids s n =
-    let t = selected_from fields chunks 1 count ids s n in
-    bit_or t.present (bit_and (inverse t.selected) (get_or chunks 0 0))
+unfoldable pub skip_one_word : List FieldChunk → List ℤ → ℕ
+skip_one_word fields ids =
+    let t = selected_of (drop 1 fields) ids in
+    bit_or t.present (bit_and (inverse t.selected) (field_at fields 0).chunk)
 
--- SkipWithoutNulls: of a field and present, or of no field; cut to the n slots
-unfoldable pub skip_without_word : List ℕ → List ℕ → ℕ → List ℤ → ℕ → ℕ → ℕ
-skip_without_word fields chunks count ids s n =
-    let t = selected_from fields chunks 0 count ids s n in
-    bit_or t.present (inverse t.selected) % 2 ^ n
+-- SkipWithoutNulls: of a field and present, or of no field; cut to the slots of the run
+unfoldable pub skip_without_word : List FieldChunk → List ℤ → ℕ
+skip_without_word fields ids = let t = selected_of fields ids in bit_or t.present (inverse t.selected) % 2 ^ length ids
 
 -- SkipFullyNull: of a field and present
-unfoldable pub skip_fully_word : List ℕ → List ℕ → ℕ → List ℤ → ℕ → ℕ → ℕ
-skip_fully_word fields chunks count ids s n = (selected_from fields chunks 0 count ids s n).present
+unfoldable pub skip_fully_word : List FieldChunk → List ℤ → ℕ
+skip_fully_word fields ids = (selected_of fields ids).present
 
 -- the word by the step
-abbrev pub step_word : Taken → List ℕ → List ℕ → ℕ → List ℤ → ℕ → ℕ → ℕ
-step_word All fields chunks count ids s n = skip_one_word fields chunks count ids s n
-step_word WithNulls fields chunks count ids s n = skip_without_word fields chunks count ids s n
-step_word NotFull fields chunks count ids s n = skip_fully_word fields chunks count ids s n
+abbrev pub step_word : Taken → List FieldChunk → List ℤ → ℕ
+step_word All fields ids = skip_one_word fields ids
+step_word WithNulls fields ids = skip_without_word fields ids
+step_word NotFull fields ids = skip_fully_word fields ids
 
 -- ---- what the functions need and give
-
--- 128 zeros
-unfoldable pub zeros : List ℕ
-zeros = replicate 128 0
 
 -- the columns at some places of a list
 abbrev pub columns_at : List Column → List ℕ → List Column
 columns_at cs places = map (λ p. get_or cs p no_column) places
 
--- the columns of an answer of `taken_fields`
-abbrev pub in_taken : List Column → TakenFields → List Column
-in_taken cs t = take t.count (columns_at cs t.places)
-
 -- the places, counted from k on, of the states that are taken up
-unfoldable pub taken_places : Taken → ℕ → List FieldState → List ℕ
+unfoldable pub taken_places : Taken → ℕ → List State → List ℕ
 taken_places over k [] = []
-taken_places over k (f ∷ fs) = cond (takes over f.state) (k ∷ taken_places over (suc k) fs) (taken_places over (suc k) fs)
+taken_places over k (s ∷ ss) = cond (takes over s) (k ∷ taken_places over (suc k) ss) (taken_places over (suc k) ss)
 
--- the id of the column at a place
-abbrev pub id_in : List Column → ℕ → ℕ
-id_in cs p = nat_abs (get_or cs p no_column).id
+-- a column's id, and its presence chunk for word k of len slots
+abbrev pub field_chunk : Buffers → ℕ → ℕ → Column → FieldChunk
+field_chunk words len k c = record { id = c.id; chunk = presence_chunk c words len k }
 
--- those places and the ids there, and after them the zeros that the arrays were made with
-unfoldable pub taken_fields_of : Taken → List Column → List FieldState → TakenFields
-taken_fields_of over cs fs =
-    let l = taken_places over 0 fs in
-    record { places = l ++ drop (length l) zeros; ids = map (id_in cs) l ++ drop (length l) zeros; count = length l }
+-- no type id is below 0
+abbrev pub Plain : List ℤ → Type 0
+Plain ids = (i : ℕ) → i < length ids → T (non_neg (id_at ids i))
 
--- the first `count` columns have these ids
-abbrev pub HaveIds : List Column → List ℕ → ℕ → Type 0
-HaveIds cs ids count = (q : ℕ) → q < count → ((get_or cs q no_column).id ≡ pos (get_or ids q 0)) × (get_or ids q 0 < 128)
+-- what a step needs: a run of at most 64 type ids, and fields with valid ids
+pub record RunReady (fields : List FieldChunk) (ids : List ℤ) : Type 0 where
+  pub short : length ids ≤ 64
+  pub plain : Plain ids
+  pub named : (q : ℕ) → q < length fields → valid_id (field_at fields q).id ≡ true
 
--- n type ids are lent, of which none is below 0
-pub record LentIds (ids : List ℤ) (start n : ℕ) : Type 0 where
-  pub lent : start + n ≤ length ids
-  pub plain : (i : ℕ) → i < n → T (non_neg (id_at ids start i))
-
--- what a step needs: a run of at most 64 type ids, and fields whose ids are 0 to 127
-pub record RunReady (fields : List ℕ) (count : ℕ) (ids : List ℤ) (start n : ℕ) : Type 0 where
-  pub slots : LentIds ids start n
-  pub short : n ≤ 64
-  pub few : count ≤ 128
-  pub named : (q : ℕ) → q < count → get_or fields q 0 < 128
+-- SkipOne needs a field, too
+pub record StepReady (over : Taken) (fields : List FieldChunk) (ids : List ℤ) : Type 0 where
+  pub run : RunReady fields ids
+  pub some : over ≡ All → 1 ≤ length fields
 
 -- a child has len slots, whose presence can be read
 abbrev pub Held : Buffers → ℕ → Column → Type 0
 Held words len c = (presence_in words c ≡ true) × (len ≤ c.slots)
 
 -- each column's id is one of 0 to 127
-abbrev pub ValidIds : List Column → ℕ → Type 0
-ValidIds cs count = (q : ℕ) → q < count → valid_id (get_or cs q no_column).id ≡ true
+abbrev pub ValidIds : List Column → Type 0
+ValidIds cs = (q : ℕ) → q < length cs → valid_id (get_or cs q no_column).id ≡ true
 
--- what is taken up lies in the column list, and has these ids
-pub record TakenNamed (cs : List Column) (t : TakenFields) : Type 0 where
-  pub few : t.count ≤ 128
-  pub long : t.count ≤ length t.places
-  pub placed : (q : ℕ) → q < t.count → get_or t.places q 0 < 128
-  pub named : HaveIds (columns_at cs t.places) t.ids t.count
+-- what is taken up lies in the column list, and has valid ids
+pub record TakenNamed (cs : List Column) (places : List ℕ) : Type 0 where
+  pub placed : (q : ℕ) → q < length places → get_or places q 0 < length cs
+  pub valid : ValidIds (columns_at cs places)
 
--- what the steps need of it
-pub record TakenReady (over : Taken) (cs : List Column) (t : TakenFields) (words : Buffers) (ids : List ℤ) (start len : ℕ) : Type 0 where
-  pub taken : TakenNamed cs t
-  pub slots : LentIds ids start len
-  pub some : over ≡ All → 1 ≤ t.count
-  pub held : (q : ℕ) → q < t.count → Held words len (get_or (columns_at cs t.places) q no_column)
+-- and is held
+pub record TakenReady (cs : List Column) (places : List ℕ) (words : Buffers) (len : ℕ) : Type 0 where
+  pub taken : TakenNamed cs places
+  pub held : (q : ℕ) → q < length places → Held words len (get_or (columns_at cs places) q no_column)
 
--- what they need of all columns
-pub record FieldsReady (cs : List Column) (count : ℕ) (words : Buffers) (ids : List ℤ) (start len : ℕ) : Type 0 where
-  pub slots : LentIds ids start len
-  pub held : (q : ℕ) → q < count → Held words len (get_or cs q no_column)
+-- what the steps need of what is taken up: at most 128 fields, held, one or more for SkipOne; the slots' type ids
+pub record StepsReady (over : Taken) (cs : List Column) (places : List ℕ) (words : Buffers) (ids : List ℤ) : Type 0 where
+  pub taken : TakenReady cs places words (length ids)
+  pub plain : Plain ids
+  pub few : length places ≤ 128
+  pub some : over ≡ All → 1 ≤ length places
+
+-- and to take it up by the route: the states of all columns, which are at least one, at most 128, valid and held; the slots' type ids
+pub record FieldsReady (cs : List Column) (fs : Fields) (words : Buffers) (ids : List ℤ) : Type 0 where
+  pub few : fs.count ≤ 128
+  pub some : 1 ≤ length cs
+  pub states : in_list fs ≡ map (state_of words) cs
+  pub plain : Plain ids
+  pub valid : ValidIds cs
+  pub held : (q : ℕ) → q < length cs → Held words (length ids) (get_or cs q no_column)

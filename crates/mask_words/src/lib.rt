@@ -5,23 +5,41 @@ mod steps;
 pub mod taking;
 pub mod words;
 
+use std::marker::Model;
+
 // The fields that a strategy takes up: all, those with a null, or those that are not fully null.
-#[derive(Clone, Copy)]
+#[derive(Clone, Copy, Debug, PartialEq, Eq)]
 pub enum Taken {
     All,
     WithNulls,
     NotFull,
 }
 
-// The places in the column list of those fields, in order, and their ids: the first `count` entries of each.
-#[derive(Clone, Copy)]
+// The places of those fields in the column list, in order: the first `count` entries. An array, since there is no heap.
+#[derive(Drop)]
 pub struct TakenFields {
-    pub places: [u8; 128],
-    pub ids: [u8; 128],
-    pub count: usize,
+    places: [u8; 128],
+    count: usize,
 }
 
-// Of a run of slots: a word of those that the fields taken up have, and one of those of them that are present.
+impl Model for TakenFields {
+    ghost use Rattle.std.specs.Prelude.{List, ℕ, ◌≤◌, take};
+
+    ghost Value = { List ℕ };
+
+    ghost view = { λ t. take t.count t.places };
+
+    ghost invariant = { λ t. t.count ≤ 128 };
+}
+
+// A field's id, and a presence chunk of its child.
+#[derive(Clone, Copy)]
+pub(crate) struct FieldChunk {
+    id: i8,
+    chunk: u64,
+}
+
+// Of a run of slots: a word of those that some fields have, and one of those of them that are present.
 #[derive(Clone, Copy)]
 pub(crate) struct Selection {
     selected: u64,

@@ -1,59 +1,68 @@
 // The fields that a strategy takes up.
-ghost use Rattle.std.specs.Prelude.{◌≡◌, ◌≤◌};
+ghost use Rattle.std.specs.Prelude.{◌≡◌, ◌∷◌, [], ◌++◌, ◌<◌, ◌≤◌, length};
 ghost use Rattle.null_strategy.specs.Fields.{in_list};
-ghost use Rattle.mask_words.specs.Steps.{takes, over_of, taken_fields_of, ValidIds};
+ghost use Rattle.mask_words.specs.Steps.{over_of, takes, taken_places};
 
 use crate::{Taken, TakenFields};
-use array_columns::Column;
-use null_strategy::{Fields, Route, State, states};
+use null_strategy::{Fields, Route, State};
 
 // What the step of a route takes up.
-pub fn over_of(route: Route) -> Taken
-    ensures { result ≡ over_of route }
-{
-    match route {
-        Route::Absent => Taken::All,
-        Route::OneField => Taken::All,
-        Route::AllNull => Taken::All,
-        Route::Gather => Taken::All,
-        Route::SkipOne => Taken::All,
-        Route::SkipWithoutNulls => Taken::WithNulls,
-        Route::SkipFullyNull => Taken::NotFull,
-    }
-}
+impl From<Route> for Taken {
+    ghost from_gives = { λ route over. over ≡ over_of route };
 
-// Whether a field of this state is taken up.
-fn takes(over: Taken, state: State) -> bool
-    ensures { result ≡ takes over state }
-{
-    match over {
-        Taken::All => true,
-        Taken::WithNulls => states::has_null(state),
-        Taken::NotFull => !states::is_full(state),
-    }
-}
-
-// The places and ids of the fields that are taken up, and zeros after them.
-pub fn taken_fields(columns: [Column; 128], fs: Fields, over: Taken) -> TakenFields
-    requires count_bound { fs.count ≤ 128 }
-    requires valid_ids { ValidIds columns fs.count }
-    ensures { result ≡ taken_fields_of over columns (in_list fs) }
-{
-    let mut places = [0u8; 128];
-    let mut ids = [0u8; 128];
-    let mut count: usize = 0;
-    let used = fs.count;
-    let mut q: usize = 0;
-    while q < used {
-        let f = fs.states[q];
-        let state = f.state;
-        if takes(over, state) {
-            let c = columns[q];
-            places[count] = q as u8;
-            ids[count] = c.id as u8;
-            count += 1;
+    fn from(route: Route) -> Taken {
+        match route {
+            Route::SkipWithoutNulls => Taken::WithNulls,
+            Route::SkipFullyNull => Taken::NotFull,
+            _ => Taken::All,
         }
-        q += 1;
     }
-    TakenFields { places, ids, count }
+}
+
+impl Taken {
+    // Whether a field of this state is taken up.
+    fn takes(self, state: State) -> bool
+        ensures { result ≡ takes self state }
+    {
+        match self {
+            Taken::All => true,
+            Taken::WithNulls => state.has_null(),
+            Taken::NotFull => !state.is_full(),
+        }
+    }
+}
+
+impl TakenFields {
+    // The fields that are taken up.
+    pub fn of(fs: &Fields, over: Taken) -> TakenFields
+        requires { fs.now.count ≤ 128 }
+        ensures { result ≡ taken_places over 0 (in_list fs.now) }
+    {
+        let mut taken = TakenFields {
+            places: [0u8; 128],
+            count: 0,
+        };
+        for (place, state) in fs.states[..fs.count].iter().enumerate() {
+            if over.takes(*state) {
+                taken.push(place as u8);
+            }
+        }
+        taken
+    }
+
+    // One more place.
+    fn push(&mut self, place: u8)
+        requires { length self.old < 128 }
+        ensures { self.new ≡ self.old ++ place ∷ [] }
+    {
+        self.places[self.count] = place;
+        self.count += 1;
+    }
+
+    // Their places in the column list.
+    pub fn places(&self) -> &[u8]
+        ensures { result.now ≡ self.now }
+    {
+        &self.places[..self.count]
+    }
 }

@@ -12,11 +12,11 @@ use Rattle.array_columns.specs.declared.Layout.{Layout}
 use Rattle.array_columns.specs.declared.Layout.TheVariants.{Sparse, Dense}
 use Rattle.union_array.specs.declared.UnionArray.{UnionArray}
 use Rattle.union_array.specs.Types.{no_column, by_layout}
-use Rattle.array_columns.specs.Buffers.{Buffers, only_words}
+use Rattle.array_columns.specs.Buffers.{Buffers}
 use Rattle.union_array.specs.Slots.{all}
 use Rattle.null_strategy.specs.Route.{Choice, Route, Absent, OneField, AllNull, Gather, SkipOne, SkipWithoutNulls, SkipFullyNull, cheaper, sparse_route, fully_null, with_nulls, fully_nulls, route_of}
 use Rattle.null_strategy.specs.Fields.{Fields, fields_of, Described}
-use Rattle.null_strategy.proofs.FieldStates.{many_le, some_words, full_words}
+use Rattle.null_strategy.proofs.FieldStates.{many_le}
 
 -- ---- the cheapest so far
 
@@ -45,19 +45,19 @@ sparse_is P p q r s gather n m f =
 
 -- ---- the route of at most one field
 
-none_masked : (n : ℕ) (cs : List Column) → n < 1 → all (λ c. not c.masked) (take n cs) ≡ true
+none_masked : (n : ℕ) (cs : List Column) → n ≡ 0 → all (λ c. not c.masked) (take n cs) ≡ true
 none_masked zero cs h = refl
 none_masked (suc n) cs h = absurd (omega arith)
 
-first_masked : (n : ℕ) (cs : List Column) → 1 ≤ n → n < 2 → all (λ c. not c.masked) (take n cs) ≡ not (get_or cs 0 no_column).masked
-first_masked zero cs h l = absurd (omega arith)
-first_masked (suc zero) [] h l = refl
-first_masked (suc zero) (c ∷ cs) h l = by c.masked
+first_masked : (n : ℕ) (cs : List Column) → n ≡ 1 → all (λ c. not c.masked) (take n cs) ≡ not (get_or cs 0 no_column).masked
+first_masked zero cs h = absurd (omega arith)
+first_masked (suc zero) [] h = refl
+first_masked (suc zero) (c ∷ cs) h = by c.masked
   where
     by : (b : Bool) → not b && true ≡ not b
     by true = refl
     by false = refl
-first_masked (suc (suc n)) cs h l = absurd (omega arith)
+first_masked (suc (suc n)) cs h = absurd (omega arith)
 
 -- ---- the route of an array, by its fields
 
@@ -71,13 +71,13 @@ module _ (a : UnionArray) (m : Buffers) (gather : ℕ) (fs : Fields) (e : fs ≡
   f_is : fs.full ≡ fully_nulls a m
   f_is = ap (λ (x : Fields). x.full) e
 
-  pub no_field : fs.count < 1 → Absent ≡ route_of a m gather
+  pub no_field : fs.count ≡ 0 → Absent ≡ route_of a m gather
   unfolding route_of
-  no_field h = rw (le-leb a.fields 1 (omega (arith, n_is)), none_masked a.fields a.columns (omega (arith, n_is)))
+  no_field h = rw (le-leb a.fields 1 (omega (arith, n_is)), none_masked a.fields a.columns (sym n_is ∙ h))
 
-  pub one_field : (b : Bool) → 1 ≤ fs.count → fs.count < 2 → (get_or a.columns 0 no_column).masked ≡ b → cond (not b) Absent OneField ≡ route_of a m gather
+  pub one_field : (b : Bool) → fs.count ≡ 1 → (get_or a.columns 0 no_column).masked ≡ b → cond (not b) Absent OneField ≡ route_of a m gather
   unfolding route_of
-  one_field b h l q = rw (le-leb a.fields 1 (omega (arith, n_is)), first_masked a.fields a.columns (omega (arith, n_is)) (omega (arith, n_is)), q)
+  one_field b h q = rw (le-leb a.fields 1 (omega (arith, n_is)), first_masked a.fields a.columns (sym n_is ∙ h), q)
 
   module _ (h : 1 < fs.count) where
     many : leb a.fields 1 ≡ false
@@ -112,8 +112,3 @@ module _ (a : UnionArray) (m : Buffers) (gather : ℕ) (fs : Fields) (e : fs ≡
 pub full_le : (a : UnionArray) (fs : Fields) → Described a fs → fs.full ≤ fs.count
 unfolding fully_nulls
 full_le a fs d = subst (λ (x : Fields). x.full ≤ x.count) (sym d.fields) (many_le (fully_null d.buffers) a.fields a.columns)
-
--- only the value words and the mask words matter
-pub route_words : (a : UnionArray) (m : Buffers) (gather : ℕ) → route_of a (only_words m.values m.masks) gather ≡ route_of a m gather
-unfolding route_of
-route_words a m gather = rw (some_words a m, full_words a m)

@@ -20,11 +20,10 @@ use Rattle.bitmap.proofs.Counts.{count_zero, count_full, fully_null_lem}
 use Rattle.array_columns.specs.declared.Column.{Column}
 use Rattle.union_array.specs.declared.UnionArray.{UnionArray}
 use Rattle.union_array.specs.Types.{no_column}
-use Rattle.array_columns.specs.Buffers.{Buffers, only_words}
-use Rattle.union_array.specs.Slots.{in_use, all, present, nulls_in}
-use Rattle.array_columns.proofs.Present.{nulls_words}
+use Rattle.array_columns.specs.Buffers.{Buffers}
+use Rattle.union_array.specs.Slots.{all, present, nulls_in}
 use Rattle.null_strategy.specs.Route.{how_many, has_null, fully_null, with_nulls, fully_nulls}
-use Rattle.null_strategy.specs.Fields.{NoNull, SomeNull, FullyNull, FieldState, has_nulls, only_nulls, no_state, state_of, field_state, state_at, no_states}
+use Rattle.null_strategy.specs.Fields.{Fields, State, NoNull, SomeNull, FullyNull, has_nulls, only_nulls, state_of, state_at, no_states, fields_of}
 
 module _ (m : Buffers) (c : Column) where
   pub state_none : nulls_in c m ≡ 0 → NoNull ≡ state_of m c
@@ -75,11 +74,6 @@ module _ (m : Buffers) (c : Column) where
     none_present e =
         not-true (present c m p) (count_full c.slots (λ p. not (present c m p)) (fully_null_lem (nulls_in c m) c.slots (sym is_full ∙ e)).0 p h)
 
--- only the value words and the mask words matter
-pub state_words : (m : Buffers) (c : Column) → state_of (only_words m.values m.masks) c ≡ state_of m c
-unfolding state_of
-state_words m c = rw (nulls_words c m)
-
 -- ---- counts of columns, one column at a time
 
 many_snoc : (p : Column → Bool) (cs : List Column) (c : Column) → how_many p (cs ++ c ∷ []) ≡ how_many p cs + digit (p c)
@@ -98,20 +92,6 @@ many_more p cs q s b h es e =
     ap₂ (λ (u v : ℕ). u + v) es (byte_digit b ∙ ap digit e)
     ∙ sym (ap (λ (n : ℕ). how_many p (take n cs)) (add-one q) ∙ ap (how_many p) (take-suc cs q no_column h) ∙ many_snoc p (take q cs) (get_or cs q no_column))
 
-many_ext : (p q : Column → Bool) (cs : List Column) → ((c : Column) → p c ≡ q c) → how_many p cs ≡ how_many q cs
-many_ext p q [] h = refl
-many_ext p q (c ∷ cs) h = ap₂ (λ (b : Bool) (n : ℕ). digit b + n) (h c) (many_ext p q cs h)
-
--- M and F: only the value words and the mask words matter
-module _ (a : UnionArray) (m : Buffers) where
-  pub some_words : with_nulls a (only_words m.values m.masks) ≡ with_nulls a m
-  unfolding with_nulls
-  some_words = many_ext _ (has_null m) (in_use a) (λ c. rw (nulls_words c m))
-
-  pub full_words : fully_nulls a (only_words m.values m.masks) ≡ fully_nulls a m
-  unfolding fully_nulls
-  full_words = many_ext _ (fully_null m) (in_use a) (λ c. rw (nulls_words c m))
-
 -- every column counts: each passes
 pub many_all : (p : Column → Bool) (n : ℕ) (cs : List Column) → how_many p (take n cs) ≡ n → all p (take n cs) ≡ true
 many_all p zero cs e = refl
@@ -124,41 +104,37 @@ many_all p (suc n) (c ∷ cs) e = at (p c) refl (many_all p n cs)
 
 -- ---- the states in use are those of the columns in use
 
-table_map : (m : Buffers) (n : ℕ) (cs : List Column) → n ≤ length cs → table n (state_at m cs) ≡ map (field_state m) (take n cs)
+table_map : (m : Buffers) (n : ℕ) (cs : List Column) → n ≤ length cs → table n (state_at m cs) ≡ map (state_of m) (take n cs)
 table_map m zero cs h = refl
 table_map m (suc n) [] h = absurd (not-suc-le-zero h)
-table_map m (suc n) (c ∷ cs) h = ap (λ (l : List FieldState). field_state m c ∷ l) (table_map m n cs (le_of_suc-le-suc h))
+table_map m (suc n) (c ∷ cs) h = ap (λ (l : List State). state_of m c ∷ l) (table_map m n cs (le_of_suc-le-suc h))
 
-take_table : (n : ℕ) (f : ℕ → FieldState) (r : List FieldState) → take n (table n f ++ r) ≡ table n f
+take_table : (n : ℕ) (f : ℕ → State) (r : List State) → take n (table n f ++ r) ≡ table n f
 take_table zero f r = refl
-take_table (suc n) f r = ap (λ (l : List FieldState). f 0 ∷ l) (take_table n (λ k. f (suc k)) r)
+take_table (suc n) f r = ap (λ (l : List State). f 0 ∷ l) (take_table n (λ k. f (suc k)) r)
 
-pub fields_in : (m : Buffers) (n : ℕ) (cs : List Column) → n ≤ length cs → take n (retable n (state_at m cs) no_states) ≡ map (field_state m) (take n cs)
+pub fields_in : (m : Buffers) (n : ℕ) (cs : List Column) → n ≤ length cs → take n (retable n (state_at m cs) no_states) ≡ map (state_of m) (take n cs)
 unfolding retable
 fields_in m n cs h = take_table n (state_at m cs) _ ∙ table_map m n cs h
 
--- ---- before the first column, and the counts by name
+-- ---- before the first column, and after the last
 
-pub none_yet : (m : Buffers) (cs : List Column) → replicate 128 no_state ≡ retable 0 (state_at m cs) no_states
+pub none_yet : (m : Buffers) (cs : List Column) → replicate 128 NoNull ≡ retable 0 (state_at m cs) no_states
 unfolding no_states
 none_yet m cs = sym (retable_none (state_at m cs) no_states)
 
-pub no_fields : (p : Column → Bool) (cs : List Column) → 0 ≡ how_many p (take 0 cs)
-no_fields p cs = refl
-
 pub states_length : length no_states ≡ 128
 unfolding no_states
-states_length = length-replicate 128 no_state
+states_length = length-replicate 128 NoNull
 
 pub byte_le : (b : Bool) → bool_byte b ≤ 1
 byte_le true = omega arith
 byte_le false = omega arith
 
-module _ (a : UnionArray) (m : Buffers) where
-  pub with_nulls_lem : how_many (has_null m) (in_use a) ≡ with_nulls a m
-  unfolding with_nulls
-  with_nulls_lem = refl
-
-  pub fully_nulls_lem : how_many (fully_null m) (in_use a) ≡ fully_nulls a m
-  unfolding fully_nulls
-  fully_nulls_lem = refl
+pub fields_told : (a : UnionArray) (m : Buffers) (fs : Fields) (q : ℕ) → q ≡ a.fields → fs.count ≡ a.fields → fs.states ≡ retable q (state_at m a.columns) no_states
+    → fs.some ≡ how_many (has_null m) (take q a.columns) → fs.full ≡ how_many (fully_null m) (take q a.columns) → fs ≡ fields_of a m
+unfolding with_nulls fully_nulls
+fields_told a m fs q e n s i j =
+    ap₂ (λ (x : List State) (y : ℕ). record { states = x; count = y; some = fs.some; full = fs.full }) (s ∙ ap (λ (q : ℕ). retable q (state_at m a.columns) no_states) e) n
+    ∙ ap₂ (λ (x y : ℕ). record { states = retable a.fields (state_at m a.columns) no_states; count = a.fields; some = x; full = y })
+    (i ∙ ap (λ (q : ℕ). how_many (has_null m) (take q a.columns)) e) (j ∙ ap (λ (q : ℕ). how_many (fully_null m) (take q a.columns)) e)

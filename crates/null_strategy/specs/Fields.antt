@@ -8,7 +8,6 @@ use Rattle.array_columns.specs.Buffers.{Buffers}
 use Rattle.null_strategy.specs.Route.{has_null, fully_null, with_nulls, fully_nulls}
 pub use Rattle.null_strategy.specs.declared.State.{State}
 pub use Rattle.null_strategy.specs.declared.State.TheVariants.{NoNull, SomeNull, FullyNull}
-pub use Rattle.null_strategy.specs.declared.FieldState.{FieldState}
 pub use Rattle.null_strategy.specs.declared.Fields.{Fields}
 
 -- a child of this state has a null
@@ -27,28 +26,20 @@ only_nulls FullyNull = true
 unfoldable pub state_of : Buffers → Column → State
 state_of m c = cond (has_null m c) (cond (fully_null m c) FullyNull SomeNull) NoNull
 
--- as an entry
-abbrev pub field_state : Buffers → Column → FieldState
-field_state m c = record { state = state_of m c }
-
--- the entry of a child without a null
-abbrev pub no_state : FieldState
-no_state = record { state = NoNull }
-
 -- that of column q of a list
-abbrev pub state_at : Buffers → List Column → ℕ → FieldState
-state_at m cs q = field_state m (get_or cs q no_column)
+abbrev pub state_at : Buffers → List Column → ℕ → State
+state_at m cs q = state_of m (get_or cs q no_column)
 
--- 128 of them
-unfoldable pub no_states : List FieldState
-no_states = replicate 128 no_state
+-- 128 children without a null
+unfoldable pub no_states : List State
+no_states = replicate 128 NoNull
 
 -- the states of an array's fields, N, M and F
 abbrev pub fields_of : UnionArray → Buffers → Fields
 fields_of a m = record { states = retable a.fields (state_at m a.columns) no_states; count = a.fields; some = with_nulls a m; full = fully_nulls a m }
 
 -- the states in use
-abbrev pub in_list : Fields → List FieldState
+abbrev pub in_list : Fields → List State
 in_list fs = take fs.count fs.states
 
 -- the states are those of an array's fields

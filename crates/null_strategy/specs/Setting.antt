@@ -1,9 +1,13 @@
 -- The processor setting. "The gather cost is one of 10, 3, 2 and 0."
-use Rattle.std.specs.Prelude.{Bool, cond, ◌||◌, ℕ, eqb}
-use Rattle.array_columns.specs.Refusal.{no}
+use Rattle.std.specs.Prelude.{Bool, cond, ◌||◌, ℕ, eqb, Result, Ok, Err}
+use Rattle.array_columns.specs.declared.Refusal.{Refusal}
+use Rattle.array_columns.specs.declared.Refusal.TheVariants.{UnknownSetting}
+use Rattle.array_columns.specs.Refusal.{no, refusal_number}
 pub use Rattle.null_strategy.specs.declared.Processor.{Processor}
-pub use Rattle.null_strategy.specs.declared.Setting.{Setting}
-use Rattle.null_strategy.specs.declared.Setting.TheVariants.{Of, Refused}
+
+-- a setting, or the refusal of a number that is none
+abbrev pub Setting : Type 0
+Setting = Result Processor Refusal
 
 -- 12. Setting 10, 3, 2 or 0?
 unfoldable pub question12 : ℕ → Bool
@@ -11,13 +15,13 @@ question12 cost = eqb cost 10 || (eqb cost 3 || (eqb cost 2 || eqb cost 0))
 
 -- 01's number of each case
 abbrev pub setting_number : Setting → ℕ
-setting_number (Of p) = 0
-setting_number Refused = 12
+setting_number (Ok p) = 0
+setting_number (Err r) = refusal_number r
 
 -- and its value: the gather cost, 0 when refused
 abbrev pub setting_cost : Setting → ℕ
-setting_cost (Of p) = p.cost
-setting_cost Refused = 0
+setting_cost (Ok p) = p.cost
+setting_cost (Err r) = 0
 
 -- a number and a value
 pub record SettingAnswer : Type 0 where
@@ -34,4 +38,4 @@ setting_answer cost = record { refusal = no 12 (question12 cost); cost = cond (q
 
 -- the case of `Setting` that has this number and value
 unfoldable pub setting_of : ℕ → Setting
-setting_of cost = cond (question12 cost) (Of (record { cost = cost })) Refused
+setting_of cost = cond (question12 cost) (Ok (record { cost = cost })) (Err UnknownSetting)

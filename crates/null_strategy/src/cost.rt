@@ -2,7 +2,8 @@
 ghost use Rattle.std.specs.Prelude.{◌≡◌};
 ghost use Rattle.null_strategy.specs.Setting.{setting_told, setting_answer};
 
-use crate::{Processor, Setting};
+use crate::Processor;
+use array_columns::Refusal;
 
 impl Processor {
     pub const AVX2: Processor = Processor { cost: 10 };
@@ -15,22 +16,16 @@ impl Processor {
 
     // The setting of a gather cost.
     #[tactic(auto, unfolding(crate::specs::Setting::setting_answer, crate::specs::Setting::question12))]
-    pub fn new(cost: usize) -> Setting
+    pub fn new(cost: usize) -> Result<Processor, Refusal>
         ensures { setting_told result ≡ setting_answer cost }
     {
-        if cost == 10 {
-            return Setting::Of(Processor::AVX2);
+        match cost {
+            10 => Ok(Processor::AVX2),
+            3 => Ok(Processor::SSE4_1),
+            2 => Ok(Processor::X86),
+            0 => Ok(Processor::OTHER),
+            _ => Err(Refusal::UnknownSetting),
         }
-        if cost == 3 {
-            return Setting::Of(Processor::SSE4_1);
-        }
-        if cost == 2 {
-            return Setting::Of(Processor::X86);
-        }
-        if cost == 0 {
-            return Setting::Of(Processor::OTHER);
-        }
-        Setting::Refused
     }
 
     // The gather cost.

@@ -6,20 +6,13 @@ pub mod routes;
 pub mod states;
 
 // The processor setting: what gathering costs, against one selection mask a chunk.
-#[derive(Clone, Copy)]
+#[derive(Clone, Copy, Debug, PartialEq, Eq)]
 pub struct Processor {
     cost: usize,
 }
 
-// What `Processor::new` answers.
-#[derive(Clone, Copy)]
-pub enum Setting {
-    Of(Processor),
-    Refused,
-}
-
 // The routes of the null mask; the last four are strategies.
-#[derive(Clone, Copy)]
+#[derive(Clone, Copy, Debug, PartialEq, Eq)]
 pub enum Route {
     Absent,
     OneField,
@@ -38,23 +31,18 @@ pub struct Choice {
 }
 
 // The nulls of a child: none, some, or all of its slots.
-#[derive(Clone, Copy)]
+#[derive(Clone, Copy, Debug, PartialEq, Eq)]
 pub enum State {
     NoNull,
     SomeNull,
     FullyNull,
 }
 
-// A field's state.
-#[derive(Clone, Copy)]
-pub struct FieldState {
-    pub state: State,
-}
-
 // The states of an array's fields, in list order: the first `count` entries. `some` fields have a null, `full` are fully null.
+// An array of the most fields that a union has, since there is no heap.
 #[derive(Clone, Copy)]
 pub struct Fields {
-    pub states: [FieldState; 128],
+    pub states: [State; 128],
     pub count: usize,
     pub some: usize,
     pub full: usize,

@@ -1,102 +1,63 @@
 // Calls of a builder, each by the memory lent to it.
 ghost use Rattle.std.specs.Prelude.{◌≡◌};
 
-use crate::lent::{Buffers, BuffersMut, Refusal, unless};
-use array_columns::{Kind, Layout};
+use array_columns::{Buffers, BuffersMut, Kind, Layout, Refusal};
 use union_array::UnionArray;
 use union_builder::UnionBuilder;
 
-// A builder of a layout; one of 1024 slots is by `new_dense` or `new_sparse`.
+// What an append is given: a name, and a value's bits of a kind, or a null.
+#[derive(Clone, Copy)]
+pub struct Reading<'a> {
+    pub name: &'a [u8],
+    pub kind: Kind,
+    pub value: Option<u64>,
+}
+
+// A builder of a layout; one of 1024 slots is by `new_dense` or `new_sparse`. By a match, since each of the four makings is run.
 pub fn make(
     layout: Layout,
     slots: usize,
     columns: usize,
     lent: &Buffers<'_>,
 ) -> Result<UnionBuilder, Refusal> {
-    let Buffers {
-        type_ids,
-        offsets,
-        values,
-        masks,
-        names,
-    } = *lent;
-    let made = match (layout, slots) {
-        (Layout::Dense, 1024) => {
-            UnionBuilder::new_dense(columns, type_ids, offsets, values, masks, names)
-        }
-        (Layout::Dense, _) => UnionBuilder::with_capacity_dense(
-            slots, columns, type_ids, offsets, values, masks, names,
-        ),
-        (Layout::Sparse, 1024) => {
-            UnionBuilder::new_sparse(columns, type_ids, offsets, values, masks, names)
-        }
-        (Layout::Sparse, _) => UnionBuilder::with_capacity_sparse(
-            slots, columns, type_ids, offsets, values, masks, names,
-        ),
-    };
-    unless(made.refusal, made.builder)
+    match (layout, slots) {
+        (Layout::Dense, 1024) => UnionBuilder::new_dense(columns, lent),
+        (Layout::Dense, _) => UnionBuilder::with_capacity_dense(slots, columns, lent),
+        (Layout::Sparse, 1024) => UnionBuilder::new_sparse(columns, lent),
+        (Layout::Sparse, _) => UnionBuilder::with_capacity_sparse(slots, columns, lent),
+    }
 }
 
-// A builder whose making was refused, to which nothing is appended.
+// What stands for a builder whose making was refused, to which nothing is appended: sparse, of no slots and no columns.
 pub fn refused() -> UnionBuilder {
-    UnionBuilder::new_sparse(0, &[], &[], &[], &[], &[]).builder
+    UnionBuilder::empty(Layout::Sparse, 0, 0)
 }
 
-// Appends a value's bits, or a null.
+// Appends a reading.
 pub fn append(
     b: &mut UnionBuilder,
-    name: &[u8],
-    kind: Kind,
-    value: Option<u64>,
+    reading: &Reading<'_>,
     lent: &mut BuffersMut<'_>,
 ) -> Result<(), Refusal> {
+    let Reading { name, kind, value } = *reading;
     let r = match value {
-        Some(bits) => b.append(
-            name,
-            kind,
-            bits,
-            lent.type_ids,
-            lent.offsets,
-            lent.values,
-            lent.masks,
-            lent.names,
-        ),
-        None => b.append_null(
-            name,
-            kind,
-            lent.type_ids,
-            lent.offsets,
-            lent.values,
-            lent.masks,
-            lent.names,
-        ),
+        Some(bits) => b.append(name, kind, bits, lent),
+        None => b.append_null(name, kind, lent),
     };
     *b = r.builder;
-    unless(r.refusal, ())
+    r.answer
 }
 
-// The same with the builder lent, which the append of a null does not have.
+// The same by `append_mut`; a null has no such call.
 pub fn append_lent(
     b: &mut UnionBuilder,
-    name: &[u8],
-    kind: Kind,
-    value: Option<u64>,
+    reading: &Reading<'_>,
     lent: &mut BuffersMut<'_>,
 ) -> Result<(), Refusal> {
-    let Some(bits) = value else {
-        return append(b, name, kind, value, lent);
-    };
-    let refusal = b.append_mut(
-        name,
-        kind,
-        bits,
-        lent.type_ids,
-        lent.offsets,
-        lent.values,
-        lent.masks,
-        lent.names,
-    );
-    unless(refusal, ())
+    match reading.value {
+        Some(bits) => b.append_mut(reading.name, reading.kind, bits, lent),
+        None => append(b, reading, lent),
+    }
 }
 
 // How many slots there are.
@@ -108,25 +69,12 @@ pub fn len(b: &UnionBuilder) -> usize
 
 // The batch so far.
 pub fn finish_cloned(b: &UnionBuilder, lent: &Buffers<'_>) -> Result<UnionArray, Refusal> {
-    let r = b.finish_cloned(
-        lent.type_ids,
-        lent.offsets,
-        lent.values,
-        lent.masks,
-        lent.names,
-    );
-    unless(r.refusal, r.array)
+    b.finish_cloned(lent).answer
 }
 
 // The last batch, which empties the builder.
 pub fn finish(b: &mut UnionBuilder, lent: &Buffers<'_>) -> Result<UnionArray, Refusal> {
-    let r = b.finish(
-        lent.type_ids,
-        lent.offsets,
-        lent.values,
-        lent.masks,
-        lent.names,
-    );
+    let r = b.finish(lent);
     *b = r.builder;
-    unless(r.refusal, r.array)
+    r.answer
 }

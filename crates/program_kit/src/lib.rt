@@ -2,7 +2,6 @@
 #![tactic(auto)]
 
 pub mod builders;
-pub mod lent;
 pub mod output;
 pub mod parts;
 pub mod view;

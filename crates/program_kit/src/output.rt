@@ -8,7 +8,7 @@ use std::io::{BufWriter, Stdout, Write};
 // Standard output, behind a buffer.
 pub type Writer = BufWriter<Stdout>;
 
-// The layout's name.
+// The layout's name, in the words of the programs.
 pub fn layout_name(layout: Layout) -> &'static str {
     match layout {
         Layout::Dense => "dense",
@@ -44,7 +44,7 @@ pub fn offset(to: &mut Writer, n: i32, below: &str) -> io::Result<()> {
     number(to, n)
 }
 
-// Each entry of a list, by what writes one.
+// Each entry of a list, by what writes one, which may always be called.
 pub fn list<T: Copy, F: Fn(&mut Writer, T) -> io::Result<()>>(
     to: &mut Writer,
     entries: &[T],

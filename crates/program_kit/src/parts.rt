@@ -1,5 +1,15 @@
-// Parts of lists.
-ghost use Rattle.std.specs.Prelude.{◌≡◌, ◌+◌, ◌≤◌, ◌↔◌, IfSome, IsSome, length, take, drop};
+// Parts of lists, and which slice is meant.
+ghost use Rattle.std.specs.Prelude.{◌≡◌, ◌+◌, ◌≤◌, ◌<◌, ◌↔◌, IfSome, IsSome, [], length, take, drop};
+
+// One of the slices that are lent.
+#[derive(Clone, Copy, PartialEq, Eq)]
+pub enum Buffer {
+    TypeIds,
+    Offsets,
+    Values,
+    Masks,
+    Names,
+}
 
 // The n entries from a start on, if they are there.
 pub fn part<T>(list: &[T], start: usize, n: usize) -> Option<&[T]>
@@ -7,6 +17,14 @@ pub fn part<T>(list: &[T], start: usize, n: usize) -> Option<&[T]>
     ensures entries { IfSome result (λ p. p.now ≡ take n (drop start list.now)) }
 {
     list.get(start..)?.get(..n)
+}
+
+// The same; no entries if they are not there.
+pub fn part_or_empty<T>(list: &[T], start: usize, n: usize) -> &[T]
+    ensures there { start + n ≤ length list.now → result.now ≡ take n (drop start list.now) }
+    ensures empty { length list.now < start + n → result.now ≡ [] }
+{
+    part(list, start, n).unwrap_or(&[])
 }
 
 // The first n entries, or all if they are fewer.

@@ -1,6 +1,5 @@
 // The calls on an array, over the memory lent to them.
-use crate::lent::{Buffers, Refusal, unless};
-use array_columns::{Column, Value};
+use array_columns::{Buffers, Column, Refusal, Value};
 use logical_nulls::{LogicalNulls, SparseStrategy, mask, named};
 use union_array::{TypeNames, UnionArray};
 
@@ -13,98 +12,48 @@ pub struct View<'a> {
 
 impl<'a> View<'a> {
     pub fn try_new(&self) -> Result<(), Refusal> {
-        let l = self.lent;
-        let n = self
-            .array
-            .try_new(l.type_ids, l.offsets, l.values, l.masks, l.names);
-        unless(n, ())
+        self.array.try_new(self.lent)
     }
 
     pub fn value(&self, i: usize) -> Result<Value, Refusal> {
-        let l = self.lent;
-        let r = self
-            .array
-            .value(i, l.type_ids, l.offsets, l.values, l.masks, l.names);
-        unless(r.refusal, r)
+        self.array.value(i, self.lent)
     }
 
     pub fn type_id(&self, i: usize) -> Result<i8, Refusal> {
-        let l = self.lent;
-        let r = self
-            .array
-            .type_id(i, l.type_ids, l.offsets, l.values, l.masks, l.names);
-        unless(r.refusal, r.id)
+        self.array.type_id(i, self.lent)
     }
 
     pub fn value_offset(&self, i: usize) -> Result<usize, Refusal> {
-        let l = self.lent;
-        let r = self
-            .array
-            .value_offset(i, l.type_ids, l.offsets, l.values, l.masks, l.names);
-        unless(r.refusal, r.offset)
+        self.array.value_offset(i, self.lent)
     }
 
     pub fn child(&self, id: i8) -> Result<Column, Refusal> {
-        let l = self.lent;
-        let r = self
-            .array
-            .child(id, l.type_ids, l.offsets, l.values, l.masks, l.names);
-        unless(r.refusal, r.column)
+        self.array.child(id, self.lent)
     }
 
     pub fn type_names(&self) -> Result<TypeNames, Refusal> {
-        let l = self.lent;
-        let r = self
-            .array
-            .type_names(l.type_ids, l.offsets, l.values, l.masks, l.names);
-        unless(r.refusal, r)
+        self.array.type_names(self.lent)
     }
 
     pub fn type_ids(&self) -> Result<&'a [i8], Refusal> {
-        let l = self.lent;
-        let mut refusal = 0;
-        let ids = self.array.type_ids(
-            &mut refusal,
-            l.type_ids,
-            l.offsets,
-            l.values,
-            l.masks,
-            l.names,
-        );
-        unless(refusal, ids)
+        self.array.type_ids(self.lent)
     }
 
     pub fn is_dense(&self) -> Result<bool, Refusal> {
-        let l = self.lent;
-        let r = self
-            .array
-            .is_dense(l.type_ids, l.offsets, l.values, l.masks, l.names);
-        unless(r.refusal, r.holds)
+        self.array.is_dense(self.lent)
     }
 
     pub fn is_nullable(&self) -> Result<bool, Refusal> {
-        let l = self.lent;
-        let r = self
-            .array
-            .is_nullable(l.type_ids, l.offsets, l.values, l.masks, l.names);
-        unless(r.refusal, r.holds)
+        self.array.is_nullable(self.lent)
     }
 
     pub fn slice(&self, start: usize, count: usize) -> Result<UnionArray, Refusal> {
-        let l = self.lent;
-        let r = self.array.slice(
-            start, count, l.type_ids, l.offsets, l.values, l.masks, l.names,
-        );
-        unless(r.refusal, r.array)
+        self.array.slice(start, count, self.lent)
     }
 
     // The null mask at a setting, its words in `out`.
     pub fn nulls_at(&self, setting: usize, out: &mut [u64]) -> Result<LogicalNulls, Refusal> {
-        let l = self.lent;
-        let r = mask::logical_nulls(
-            self.array, setting, l.type_ids, l.offsets, l.values, l.masks, l.names, out,
-        );
-        unless(r.refusal, r)
+        mask::logical_nulls(self.array, setting, self.lent, out)
     }
 
     // The null mask by a named strategy, its words in `out`.
@@ -113,10 +62,6 @@ impl<'a> View<'a> {
         strategy: SparseStrategy,
         out: &mut [u64],
     ) -> Result<LogicalNulls, Refusal> {
-        let l = self.lent;
-        let r = named::run_strategy(
-            self.array, strategy, l.type_ids, l.offsets, l.values, l.masks, l.names, out,
-        );
-        unless(r.refusal, r)
+        named::run_strategy(self.array, strategy, self.lent, out)
     }
 }

@@ -1,15 +1,8 @@
 // What a line asks, or why it is bad.
 use crate::texts::Named;
 use array_columns::{Kind, Layout};
+use program_kit::builders::Reading;
 use std::fmt;
-
-// A reading: the bits of its value, none if it is missing.
-#[derive(Clone, Copy)]
-pub struct Reading<'a> {
-    pub name: &'a [u8],
-    pub kind: Kind,
-    pub value: Option<u64>,
-}
 
 // A builder to be made.
 #[derive(Clone, Copy)]

@@ -1,10 +1,11 @@
 // The null mask of a batch, in words and marks.
+use array_columns::Refusal;
 use logical_nulls::Route;
-use program_kit::lent::Refusal;
 use program_kit::view::View;
 use std::fmt;
 
 // The null mask of a batch's slots at a setting: its words, if it is present.
+// A batch has at most 4,096 slots, so 64 words hold its mask.
 #[derive(Clone, Copy)]
 pub struct Mask {
     setting: usize,
@@ -21,9 +22,9 @@ impl Mask {
         Ok(Mask {
             setting,
             slots: view.array.count,
-            nulls: r.nulls,
+            nulls: r.null_count.unwrap_or(0),
             route: r.route,
-            words: r.present.then_some(words),
+            words: r.null_count.map(|_| words),
         })
     }
 
@@ -36,6 +37,7 @@ impl Mask {
     }
 }
 
+// In this program's words, so not by a `Display` of the route.
 fn route_name(route: Route) -> &'static str {
     match route {
         Route::Absent => "no column has a null",

@@ -1,8 +1,9 @@
 // From a line to a command.
-use crate::commands::{Command, Fault, Making, Reading};
+use crate::commands::{Command, Fault, Making};
 use crate::texts;
 use crate::words::Words;
 use array_columns::{Kind, Layout};
+use program_kit::builders::Reading;
 use union_text::{kind_names, value_text};
 
 // A making: the slots and the columns, or the columns alone of one with 1024 slots.

@@ -3,12 +3,13 @@ use crate::commands::{Fault, Making};
 use crate::mask::{Marks, Mask};
 use crate::table::Table;
 use crate::texts::Counted;
-use program_kit::lent::Refusal;
+use array_columns::Refusal;
 use program_kit::output::layout_name;
 use std::alloc::{AllocError, AllocFailed};
 use std::fmt;
 
-// What an append answers: the column of the reading, and whether it is new; the slots so far.
+// What an append answers: the column of the reading, and whether it is new; the slots so far. The flags stand beside no value that
+// could be absent: each is a word of the answer.
 #[derive(Clone, Copy)]
 pub struct Appended {
     pub missing: bool,
@@ -64,30 +65,31 @@ impl<T: Drop> From<AllocFailed<T>> for Denied {
     }
 }
 
-// What each refusal of document 01 says.
+// What each refusal of document 01 says in this program; its `Display` is the number.
 fn sentence(refusal: Refusal) -> &'static str {
-    match refusal.number() {
-        1 => "more than 128 columns, or ids that are not distinct and from 0 to 127",
-        2 => "not as many children as columns",
-        3 => "a part lies outside the memory, or a name has more than 32 bytes",
-        4 => "more than 65536 slots",
-        5 => "not as many offsets as slots",
-        6 => "a column has not as many slots as the batch",
-        7 => "a slot's id names no column",
-        8 => "an offset lies outside its column",
-        9 => "the slice ends after the last slot",
-        10 => "no such slot",
-        11 => "no such column",
-        12 => "the setting is none of 10, 3, 2 and 0",
-        13 => "too few words for the mask",
-        14 => "the strategy does not apply",
-        15 => "a builder has 1 to 65536 slots and 1 to 128 columns",
-        16 => "the memory is too small for so many slots and columns",
-        17 => "the name is not UTF-8 of at most 32 bytes",
-        18 => "the column has another kind",
-        19 => "every slot is taken",
-        20 => "every column is taken",
-        _ => "unknown",
+    match refusal {
+        Refusal::FieldIds =>
+            "more than 128 columns, or ids that are not distinct and from 0 to 127",
+        Refusal::ChildCount => "not as many children as columns",
+        Refusal::PartNotLent => "a part lies outside the memory, or a name has more than 32 bytes",
+        Refusal::TooManySlots => "more than 65536 slots",
+        Refusal::OffsetCount => "not as many offsets as slots",
+        Refusal::ChildSlots => "a column has not as many slots as the batch",
+        Refusal::UnknownTypeId => "a slot's id names no column",
+        Refusal::OffsetRange => "an offset lies outside its column",
+        Refusal::SliceRange => "the slice ends after the last slot",
+        Refusal::IndexRange => "no such slot",
+        Refusal::UnknownId => "no such column",
+        Refusal::UnknownSetting => "the setting is none of 10, 3, 2 and 0",
+        Refusal::MaskRoom => "too few words for the mask",
+        Refusal::StrategyNotAllowed => "the strategy does not apply",
+        Refusal::BuilderNumbers => "a builder has 1 to 65536 slots and 1 to 128 columns",
+        Refusal::BuilderRoom => "the memory is too small for so many slots and columns",
+        Refusal::NameNotFit => "the name is not UTF-8 of at most 32 bytes",
+        Refusal::KindMismatch => "the column has another kind",
+        Refusal::CapacityReached => "every slot is taken",
+        Refusal::ColumnsReached => "every column is taken",
+        Refusal::UnknownNumber | Refusal::LengthMismatch => "unknown",
     }
 }
 
@@ -97,12 +99,10 @@ impl fmt::Display for Denied {
             Denied::Bad(fault) => write!(f, "bad line: {fault}"),
             Denied::NoBuilder => f.write_str("no builder yet"),
             Denied::NoBatch => f.write_str("no batch yet"),
-            Denied::Refused(no) => {
-                let number = no.number();
-                write!(f, "refused {number}: {}", sentence(*no))
-            }
+            Denied::Refused(no) => write!(f, "refused {no}: {}", sentence(*no)),
             Denied::OtherKind(name) => {
-                write!(f, "refused 18: the column \"{name}\" has another kind")
+                let no = Refusal::KindMismatch;
+                write!(f, "refused {no}: the column \"{name}\" has another kind")
             }
             Denied::Memory(e) => write!(f, "{e}"),
         }

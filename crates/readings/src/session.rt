@@ -1,18 +1,19 @@
 // The builder and the batch last shown, over memory of their own.
-use crate::commands::{Command, Making, Reading};
+use crate::commands::{Command, Making};
 use crate::mask::Mask;
 use crate::say::{Answer, Appended, Denied};
 use crate::table::Table;
 use crate::texts;
 use array_columns::questions::entry_of;
-use program_kit::lent::{Buffers, BuffersMut};
+use array_columns::{Buffers, BuffersMut, Refusal};
+use program_kit::builders::Reading;
 use program_kit::view::View;
 use program_kit::{builders, parts};
 use std::alloc::{AllocError, Global};
 use union_array::UnionArray;
 use union_builder::UnionBuilder;
 
-// The memory that is lent to the builder and its batches.
+// The memory that is lent to the builder and its batches: five lists of their own types and sizes.
 #[derive(Drop)]
 struct Memory {
     type_ids: Vec<i8>,
@@ -92,8 +93,8 @@ impl Session {
         let b = self.builder.as_mut().ok_or(Denied::NoBuilder)?;
         let before = b.count;
         let mut lent = self.memory.lent_mut();
-        match builders::append(b, r.name, r.kind, r.value, &mut lent) {
-            Err(no) if no.number() == 18 => {
+        match builders::append(b, r, &mut lent) {
+            Err(Refusal::KindMismatch) => {
                 return Err(Denied::OtherKind(texts::printed(alloc, r.name)?));
             }
             done => done?,
@@ -108,10 +109,12 @@ impl Session {
         }))
     }
 
-    // Shows an array, which is then the batch.
-    fn show(&mut self, alloc: Global, array: UnionArray, finished: bool) -> Result<Table, Denied> {
-        let table = Table::new(alloc, &array, &self.memory.lent())?;
-        self.batch = Some(Batch { array, finished });
+    // Shows a batch, which is then the one last shown.
+    fn show(&mut self, alloc: Global, batch: Batch) -> Result<Table, Denied> {
+        let array = batch.array;
+        let lent = &self.memory.lent();
+        let table = Table::new(alloc, &View { array, lent })?;
+        self.batch = Some(batch);
         Ok(table)
     }
 
@@ -119,22 +122,23 @@ impl Session {
     fn snapshot(&mut self, alloc: Global) -> Result<Answer, Denied> {
         let b = self.builder.as_ref().ok_or(Denied::NoBuilder)?;
         let array = builders::finish_cloned(b, &self.memory.lent())?;
-        Ok(Answer::Snapshot(self.show(alloc, array, false)?))
+        let finished = false;
+        Ok(Answer::Snapshot(self.show(alloc, Batch { array, finished })?))
     }
 
     // The last batch, which empties the builder.
     fn finish(&mut self, alloc: Global) -> Result<Answer, Denied> {
         let b = self.builder.as_mut().ok_or(Denied::NoBuilder)?;
         let array = builders::finish(b, &self.memory.lent())?;
-        Ok(Answer::Finished(self.show(alloc, array, true)?))
+        let finished = true;
+        Ok(Answer::Finished(self.show(alloc, Batch { array, finished })?))
     }
 
     // A slice in the place of the batch.
     fn slice(&mut self, alloc: Global, start: usize, count: usize) -> Result<Answer, Denied> {
         let Batch { array, finished } = self.batch.ok_or(Denied::NoBatch)?;
-        let lent = &self.memory.lent();
-        let part = View { array, lent }.slice(start, count)?;
-        Ok(Answer::Slice(self.show(alloc, part, finished)?))
+        let array = array.slice(start, count, &self.memory.lent())?;
+        Ok(Answer::Slice(self.show(alloc, Batch { array, finished })?))
     }
 
     // Answers a command.
@@ -150,13 +154,9 @@ impl Session {
             Command::Finish => self.finish(alloc),
             Command::Slice { start, count } => self.slice(alloc, *start, *count),
             Command::Mask { setting } => {
-                let batch = self.batch.as_ref().ok_or(Denied::NoBatch)?;
-                let view = View {
-                    array: batch.array,
-                    lent: &self.memory.lent(),
-                };
-                let mask = Mask::new(&view, *setting)?;
-                Ok(Answer::Mask(mask))
+                let Batch { array, .. } = self.batch.ok_or(Denied::NoBatch)?;
+                let lent = &self.memory.lent();
+                Ok(Answer::Mask(Mask::new(&View { array, lent }, *setting)?))
             }
         }
     }

@@ -5,12 +5,10 @@ use crate::texts;
 use crate::texts::Named;
 use array_columns::Kind;
 use array_columns::questions::entry_of;
-use program_kit::lent::Buffers;
 use program_kit::parts;
 use program_kit::view::View;
 use std::alloc::Global;
 use std::fmt;
-use union_array::UnionArray;
 
 // A slot's row.
 #[derive(Drop)]
@@ -32,10 +30,9 @@ pub struct Table {
 // The row of slot i.
 fn read_row(alloc: Global, view: &View<'_>, i: usize) -> Result<Row, Denied> {
     let v = view.value(i)?;
-    let value = if v.missing {
-        String::from_str(alloc, "null")?
-    } else {
-        texts::value(alloc, v.bits, v.kind)?
+    let value = match v.value {
+        None => String::from_str(alloc, "null")?,
+        Some(bits) => texts::value(alloc, bits, v.kind)?,
     };
     Ok(Row {
         id: entry_of(v.id),
@@ -46,29 +43,26 @@ fn read_row(alloc: Global, view: &View<'_>, i: usize) -> Result<Row, Denied> {
 }
 
 // The width of the columns' names, at least that of their heading.
-fn name_width(array: &UnionArray, names: &[u8]) -> usize {
-    parts::first(&array.columns, array.fields)
+fn name_width(view: &View<'_>) -> usize {
+    let lent = view.lent;
+    parts::first(&view.array.columns, view.array.fields)
         .iter()
-        .filter_map(|c| parts::part(names, c.name, c.size as usize))
+        .filter_map(|c| parts::part(lent.names, c.name, c.size as usize))
         .map(|name| texts::characters(name))
         .fold(4, |width, n| width.max(n))
 }
 
 impl Table {
-    pub fn new(alloc: Global, array: &UnionArray, lent: &Buffers<'_>) -> Result<Table, Denied> {
-        let view = View {
-            array: *array,
-            lent,
-        };
+    pub fn new(alloc: Global, view: &View<'_>) -> Result<Table, Denied> {
         let mut rows = Vec::new(alloc);
         // By slot number, which is what an array is asked.
-        for i in 0..array.count {
-            rows.push(read_row(alloc, &view, i)?)?;
+        for i in 0..view.array.count {
+            rows.push(read_row(alloc, view, i)?)?;
         }
         Ok(Table {
             rows,
-            names: name_width(array, lent.names),
-            mask: Mask::new(&view, 10)?,
+            names: name_width(view),
+            mask: Mask::new(view, 10)?,
         })
     }
 

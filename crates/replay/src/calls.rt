@@ -1,8 +1,9 @@
 // The calls of a case, from their numbers.
-use crate::memory::Part;
+use crate::memory::part_of;
 use crate::narrow;
 use array_columns::Layout;
 use logical_nulls::SparseStrategy;
+use program_kit::parts::Buffer;
 use std::fmt;
 
 // A call on an array, or what is told of it and of lent memory with no call.
@@ -46,7 +47,7 @@ impl fmt::Display for UnknownCall {
     }
 }
 
-// The strategy of a route.
+// The strategy of a route. The numbers of this input are its own, of 64 bits, and one that names no case is read as the first.
 fn strategy_of(route: u64) -> SparseStrategy {
     match route {
         4 => SparseStrategy::SkipOne,
@@ -56,7 +57,7 @@ fn strategy_of(route: u64) -> SparseStrategy {
     }
 }
 
-// From a call's number and its two arguments.
+// From a call's number and its two arguments, which are taken apart at once.
 impl TryFrom<[u64; 3]> for Ask {
     type Error = UnknownCall;
 
@@ -85,7 +86,7 @@ impl TryFrom<[u64; 3]> for Ask {
     }
 }
 
-// From a call's number and its two arguments.
+// From a call's number and its two arguments, which are taken apart at once.
 impl TryFrom<[u64; 3]> for Op {
     type Error = UnknownCall;
 
@@ -113,9 +114,10 @@ pub struct Call {
     pub number: u64,
     pub op: Result<Op, UnknownCall>,
     pub by: u64,
-    pub short: Option<Part>,
+    pub short: Option<Buffer>,
 }
 
+// From a row of the input, which is taken apart at once.
 impl From<[u64; 5]> for Call {
     fn from(numbers: [u64; 5]) -> Call {
         let [number, a, b, by, short] = numbers;
@@ -123,7 +125,7 @@ impl From<[u64; 5]> for Call {
             number,
             op: Op::try_from([number, a, b]),
             by,
-            short: Part::of(short),
+            short: part_of(short),
         }
     }
 }

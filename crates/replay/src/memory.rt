@@ -1,33 +1,19 @@
 // The memory that a case lends to its calls.
-ghost use Rattle.std.specs.Prelude.{◌≤◌, length};
-
 use crate::narrow;
 use crate::numbers::Numbers;
-use program_kit::lent::{Buffers, BuffersMut};
-use program_kit::parts;
+use array_columns::BuffersMut;
+use program_kit::parts::{self, Buffer};
 use std::alloc::{AllocError, Global};
 
-// A part of lent memory.
-#[derive(Clone, Copy, PartialEq, Eq)]
-pub enum Part {
-    TypeIds,
-    Offsets,
-    Values,
-    Masks,
-    Names,
-}
-
-impl Part {
-    // The part with a number, from 1 on.
-    pub fn of(n: u64) -> Option<Part> {
-        match n {
-            1 => Some(Part::TypeIds),
-            2 => Some(Part::Offsets),
-            3 => Some(Part::Values),
-            4 => Some(Part::Masks),
-            5 => Some(Part::Names),
-            _ => None,
-        }
+// The part with a number, from 1 on.
+pub fn part_of(n: u64) -> Option<Buffer> {
+    match n {
+        1 => Some(Buffer::TypeIds),
+        2 => Some(Buffer::Offsets),
+        3 => Some(Buffer::Values),
+        4 => Some(Buffer::Masks),
+        5 => Some(Buffer::Names),
+        _ => None,
     }
 }
 
@@ -77,13 +63,13 @@ impl Memory {
     }
 
     // What is lent to a call that is short of a part, or of none.
-    pub fn lent(&mut self, short: Option<Part>) -> BuffersMut<'_> {
+    pub fn lent(&mut self, short: Option<Buffer>) -> BuffersMut<'_> {
         BuffersMut {
-            type_ids: lent(&mut self.type_ids, short == Some(Part::TypeIds), 65537),
-            offsets: lent(&mut self.offsets, short == Some(Part::Offsets), 65537),
-            values: lent(&mut self.values, short == Some(Part::Values), 65537),
-            masks: lent(&mut self.masks, short == Some(Part::Masks), 1024),
-            names: lent(&mut self.names, short == Some(Part::Names), 4096),
+            type_ids: lent(&mut self.type_ids, short == Some(Buffer::TypeIds), 65537),
+            offsets: lent(&mut self.offsets, short == Some(Buffer::Offsets), 65537),
+            values: lent(&mut self.values, short == Some(Buffer::Values), 65537),
+            masks: lent(&mut self.masks, short == Some(Buffer::Masks), 1024),
+            names: lent(&mut self.names, short == Some(Buffer::Names), 4096),
         }
     }
 }

@@ -1,36 +1,36 @@
-// The lines of the answers, and what each kind of answer tells.
-
-use crate::calls::Call;
-use array_columns::kinds::kind_number;
-use array_columns::questions::entry_of;
-use array_columns::{Column, Value};
+// What calls answer, and what each kind of answer tells.
+use array_columns::{Buffers, Column, Refusal, Value};
 use logical_nulls::LogicalNulls;
-use program_kit::lent::Buffers;
-use program_kit::output::Writer;
-use program_kit::parts;
-use std::fmt::Display;
+use program_kit::output::{Writer, id, number};
+use program_kit::view::View;
+use program_kit::{output, parts};
 use std::io;
-use std::io::Write;
 use union_array::{TypeNames, UnionArray};
 
-// A call's line: its number, whose word the answer is, the refusal's number, and what an answer that is not refused tells.
-pub fn line<T: Drop, E: Display + Drop, F: FnOnce(&mut Writer, T) -> io::Result<()> + Drop>(
+// What a call answers: the number of its refusal, or 0 and what the answer tells. What tells it may always be called, here and below.
+pub fn answer<T: Drop, F: FnOnce(&mut Writer, T) -> io::Result<()> + Drop>(
     to: &mut Writer,
-    c: &Call,
-    answer: Result<T, E>,
+    answer: Result<T, Refusal>,
     tell: F,
 ) -> io::Result<()>
     requires { F.IsAlwaysCallable tell }
 {
-    write!(to, "{} {}", c.number, c.by)?;
     match answer {
-        Ok(x) => {
-            write!(to, " 0")?;
-            tell(to, x)?;
-        }
-        Err(refusal) => write!(to, " {refusal}")?,
+        Ok(x) => told(to, x, tell),
+        Err(refusal) => number(to, refusal),
     }
-    writeln!(to)
+}
+
+// The same of a call that no question refuses.
+pub fn told<T: Drop, F: FnOnce(&mut Writer, T) -> io::Result<()> + Drop>(
+    to: &mut Writer,
+    x: T,
+    tell: F,
+) -> io::Result<()>
+    requires { F.IsAlwaysCallable tell }
+{
+    number(to, 0)?;
+    tell(to, x)
 }
 
 // An answer that tells nothing but that it is not refused.
@@ -38,63 +38,51 @@ pub fn nothing<T: Drop>(_to: &mut Writer, _x: T) -> io::Result<()> {
     Ok(())
 }
 
-pub fn number<N: Display + Drop>(to: &mut Writer, n: N) -> io::Result<()> {
-    write!(to, " {n}")
-}
-
 pub fn flag(to: &mut Writer, b: bool) -> io::Result<()> {
     number(to, u8::from(b))
 }
 
-// An id, 255 for one below 0.
-pub fn id(to: &mut Writer, id: i8) -> io::Result<()> {
-    number(to, entry_of(id))
-}
-
-// How many entries a list has, and the number of each.
-fn list<T: Copy, N: Display + Drop, F: Fn(T) -> N>(
+// How many entries a list has, and each, by what writes one.
+fn list<T: Copy, F: Fn(&mut Writer, T) -> io::Result<()>>(
     to: &mut Writer,
-    list: &[T],
-    number_of: F,
+    entries: &[T],
+    write_one: F,
 ) -> io::Result<()>
-    requires { F.IsAlwaysCallable number_of }
+    requires { F.IsAlwaysCallable write_one }
 {
-    number(to, list.len())?;
-    for x in list {
-        number(to, number_of(*x))?;
-    }
-    Ok(())
+    number(to, entries.len())?;
+    output::list(to, entries, write_one)
 }
 
 pub fn words(to: &mut Writer, words: &[u64]) -> io::Result<()> {
-    list(to, words, |x| x)
+    list(to, words, number)
 }
 
 pub fn ids(to: &mut Writer, ids: &[i8]) -> io::Result<()> {
-    list(to, ids, entry_of)
+    list(to, ids, id)
 }
 
-// Offsets, all 32 bits set for one below 0.
-fn offsets(to: &mut Writer, offsets: &[i32]) -> io::Result<()> {
-    list(to, offsets, |n| u32::try_from(n).unwrap_or(u32::MAX))
+// An offset, all 32 bits set for one below 0.
+fn offset(to: &mut Writer, n: i32) -> io::Result<()> {
+    number(to, u32::try_from(n).unwrap_or(u32::MAX))
 }
 
 // Bytes, as those of a name.
 fn name(to: &mut Writer, bytes: &[u8]) -> io::Result<()> {
-    list(to, bytes, |b| b)
+    list(to, bytes, number)
 }
 
 // The name at a place in the lent bytes.
 fn name_at(to: &mut Writer, names: &[u8], start: usize, n: u8) -> io::Result<()> {
-    name(to, parts::part(names, start, n as usize).unwrap_or(&[]))
+    name(to, parts::part_or_empty(names, start, n as usize))
 }
 
 // A value's id, kind, whether it is missing, bits, and name: its length, its bytes, and each byte after them that is not 0, as none may be.
 pub fn value(to: &mut Writer, v: Value) -> io::Result<()> {
     id(to, v.id)?;
-    number(to, kind_number(v.kind))?;
-    flag(to, v.missing)?;
-    number(to, v.bits)?;
+    number(to, v.kind.number())?;
+    flag(to, v.value.is_none())?;
+    number(to, v.value.unwrap_or(0))?;
     number(to, v.size)?;
     for (k, b) in v.name.iter().enumerate() {
         if k < v.size as usize || *b != 0 {
@@ -107,7 +95,7 @@ pub fn value(to: &mut Writer, v: Value) -> io::Result<()> {
 // A child's id, kind, slots, whether it has a mask, and name.
 pub fn child(to: &mut Writer, c: Column, names: &[u8]) -> io::Result<()> {
     id(to, c.id)?;
-    number(to, kind_number(c.kind))?;
+    number(to, c.kind.number())?;
     number(to, c.slots)?;
     flag(to, c.masked)?;
     name_at(to, names, c.name, c.size)
@@ -115,10 +103,7 @@ pub fn child(to: &mut Writer, c: Column, names: &[u8]) -> io::Result<()> {
 
 // The words of a child as they lie in memory.
 pub fn child_words(to: &mut Writer, c: Column, values: &[u64]) -> io::Result<()> {
-    words(
-        to,
-        parts::part(values, c.values, c.slots as usize).unwrap_or(&[]),
-    )
+    words(to, parts::part_or_empty(values, c.values, c.slots as usize))
 }
 
 // How many names there are, and each.
@@ -131,11 +116,12 @@ pub fn type_names(to: &mut Writer, t: TypeNames, names: &[u8]) -> io::Result<()>
 }
 
 // What the array lists: how many fields, and the id and the name of each.
-pub fn fields(to: &mut Writer, a: UnionArray, names: &[u8]) -> io::Result<()> {
-    number(to, a.fields)?;
-    for c in a.columns.iter().take(a.fields) {
+pub fn fields(to: &mut Writer, view: View) -> io::Result<()> {
+    let View { array, lent } = view;
+    number(to, array.fields)?;
+    for c in array.columns.iter().take(array.fields) {
         id(to, c.id)?;
-        name_at(to, names, c.name, c.size)?;
+        name_at(to, lent.names, c.name, c.size)?;
     }
     Ok(())
 }
@@ -148,19 +134,16 @@ pub fn counts(to: &mut Writer, a: UnionArray) -> io::Result<()> {
 
 // Whether a null mask is present, its null count, its route, and the words lent, as the call left them.
 pub fn nulls(to: &mut Writer, r: LogicalNulls, words: &[u64]) -> io::Result<()> {
-    flag(to, r.present)?;
-    number(to, r.nulls)?;
+    flag(to, r.null_count.is_some())?;
+    number(to, r.null_count.unwrap_or(0))?;
     number(to, r.route.number())?;
-    for word in words {
-        number(to, *word)?;
-    }
-    Ok(())
+    output::list(to, words, number)
 }
 
 // Lent memory as it lies.
 pub fn lent(to: &mut Writer, lent: &Buffers) -> io::Result<()> {
     ids(to, lent.type_ids)?;
-    offsets(to, lent.offsets)?;
+    list(to, lent.offsets, offset)?;
     words(to, lent.values)?;
     words(to, lent.masks)?;
     name(to, lent.names)

@@ -1,88 +1,99 @@
--- A slot's child and its slot in it, by what was looked up and read. Assumes nothing.
+-- A slot's child and its slot in it, and what the lookups tell of them. Assumes nothing.
+use mathlib.Core.Bool.{true}
+use mathlib.Core.Option.{Option, none}
 use mathlib.Core.Path.{◌≡◌, refl, sym, ap, ◌∙◌}
-use mathlib.Core.Bool.{Bool, true, false}
-use mathlib.Core.Option.{Option, none, some}
-use Prim.Native.Nat.{ℕ, zero, suc, ◌<◌}
-use lib.Dec.{ltb}
-use lib.IntN.{ℤ, pos, nat_abs}
-use Rattle.union_array.specs.Types.{Layout, Column, UnionArray, no_column, by_layout}
+use Prim.Native.Nat.{ℕ, ◌<◌}
+use Rattle.std.specs.Prelude.{Ok, Err}
+use Rattle.std.specs.declared.option.Option as given
+use Rattle.array_slots.specs.declared.ChildSlot as code
+use Rattle.array_columns.specs.declared.Value as codeValue
+use Rattle.array_columns.specs.declared.Refusal.{Refusal}
+use Rattle.union_array.specs.Types.{Column, UnionArray}
 use Rattle.array_columns.specs.Buffers.{Buffers, amounts_of}
-use Rattle.array_columns.specs.Refusal.{no, ◌then◌, if_yes}
-use Rattle.union_array.specs.Slots.{in_use, is_some, type_id_at, offset_at, child_at, slot_at}
-use Rattle.union_array.specs.Questions.{within, within_child, column_in, asked, slot_checked}
-use Rattle.union_array.specs.Lookup.{or_none, no_value, value_in, column_value, value_of, type_id_of, value_offset_of}
-use Rattle.union_array.specs.Look.{Looked, look_of}
-use Rattle.union_array.specs.ChildSlot.{ChildSlot, child_slot_of}
-use Rattle.array_slots.specs.ChildSlot.{settled}
-use Rattle.array_columns.proofs.Tests.{refused_is}
+use Rattle.array_columns.specs.Refusal.{if_yes, refusal_number}
+use Rattle.array_columns.specs.Pass.{column_told}
+use Rattle.array_columns.specs.Lookup.{accepted_value}
+use Rattle.union_array.specs.Slots.{in_use, type_id_at, offset_at, child_at, slot_at}
+use Rattle.union_array.specs.Questions.{column_in, asked, slot_checked}
+use Rattle.union_array.specs.Lookup.{or_none, value_in, column_value, value_told, value_of, type_id_told, type_id_of, value_offset_told, value_offset_of}
+use Rattle.union_array.specs.Look.{looked_told, look_of, child_slot_of}
+use Rattle.array_slots.specs.ChildSlot.{child_slot_told, settled}
+use Rattle.array_columns.proofs.Numbered.{if_refused, then_refused}
+use Rattle.array_slots.proofs.ChildSlots.{settled_after}
 use Rattle.union_array.proofs.Accepted.{Accepted, SlotAccepted, child_is, slot_accepted, slot_in}
 use Rattle.array_columns.proofs.Columns.{all_found}
 
-module _ (l : Layout) (i : ℕ) (id z : ℤ) where
-  abbrev by_number : ℕ → Column → ChildSlot
-  by_number r c = record { column = if_yes r c no_column; slot = if_yes r (by_layout l i (nat_abs z)) 0; refusal = r; id = if_yes r id (pos 0) }
-
-  -- q is the first no of 1 to 6, o the slot's child
-  same : (q : ℕ) (o : Option Column) (b : Bool)
-      → by_number (q then no 10 b then no 7 (if_yes q (is_some o) false) then no 8 (by_layout l true (within z (if_yes q (or_none o) no_column).slots))) (if_yes q (or_none o) no_column)
-      ≡ by_number (q then no 10 b then no 7 (is_some o) then no 8 (by_layout l true (within_child z o))) (or_none o)
-  same (suc q) o b = refl
-  same zero none true = refl
-  same zero none false = refl
-  same zero (some c) b = refl
-
 module _ (a : UnionArray) (m : Buffers) (i : ℕ) where
-  pub settled_is : settled (look_of a m (type_id_at a m i)) a.layout a.count i (type_id_at a m i) (offset_at a m i) ≡ child_slot_of a m i
+  pub slot_refused : (r : Refusal) → looked_told (Err r) ≡ look_of a m (type_id_at a m i) → child_slot_told (Err r) ≡ child_slot_of a m i
+  unfolding look_of child_slot_of slot_checked
+  slot_refused r e = rw (← ap (λ l. l.refusal) e, then_refused r, if_refused r, if_refused r, if_refused r)
+
+  pub settled_is : (o : given.Option Column) → looked_told (Ok o) ≡ look_of a m (type_id_at a m i)
+      → settled (column_told o) a.layout a.count i (type_id_at a m i) (offset_at a m i) ≡ child_slot_of a m i
   unfolding settled look_of child_slot_of slot_checked
-  settled_is = same a.layout i (type_id_at a m i) (offset_at a m i) (asked a m) (child_at a m i) (ltb i a.count)
+  settled_is o e =
+      let z : 0 ≡ asked a m = ap (λ l. l.refusal) e in
+      let f : column_told o ≡ if_yes (asked a m) (child_at a m i) none = ap (λ l. l.column) e in
+      rw (← z, ← (rw (← z) at f))
 
-  -- from what was read, looked up and settled
-  pub found_is : (id : ℤ) (l : Looked) (s : ChildSlot) → id ≡ type_id_at a m i → l ≡ look_of a m id
-      → s ≡ settled l a.layout a.count i id (offset_at a m i) → s ≡ child_slot_of a m i
-  found_is id l s e g h =
-      h ∙ ap (λ (x : Looked). settled x a.layout a.count i id (offset_at a m i)) g
-      ∙ ap (λ (x : ℤ). settled (look_of a m x) a.layout a.count i x (offset_at a m i)) e ∙ settled_is
+  -- the number is the first of what 1 to 6 give and what the slot gives
+  pub settled_whole : settled_after (child_at a m i) a.layout a.count i (type_id_at a m i) (offset_at a m i) (asked a m) ≡ child_slot_of a m i
+  unfolding child_slot_of slot_checked
+  settled_whole = refl
 
-  module _ (s : ChildSlot) (e : s ≡ child_slot_of a m i) where
-    pub refusal_is : s.refusal ≡ slot_checked a m i
+  -- ---- refused slots
+
+  module _ (r : Refusal) (e : child_slot_told (Err r) ≡ child_slot_of a m i) where
+    number : refusal_number r ≡ slot_checked a m i
     unfolding child_slot_of
-    refusal_is = rw e
+    number = ap (λ s. s.refusal) e
 
-    pub type_id_is : ◌≡◌ (record { refusal = s.refusal; id = s.id }) (type_id_of a m i)
-    unfolding type_id_of child_slot_of
-    type_id_is = rw e
-
-    pub value_offset_is : ◌≡◌ (record { offset = s.slot; refusal = s.refusal }) (value_offset_of a m i)
-    unfolding value_offset_of child_slot_of
-    value_offset_is = rw e
-
-    pub value_refused : (s.refusal ≡ 0 → ⊥) → no_value s.refusal ≡ value_of a m i
+    pub value_refused : value_told (Err r) ≡ value_of a m i
     unfolding value_of
-    value_refused h = rw refusal_is (sym (refused_is (slot_checked a m i) _ _ (λ z. h (refusal_is ∙ z))))
+    value_refused = rw (← number, if_refused r)
 
-    module _ (h : s.refusal ≡ 0) where
-      pub checked_is : slot_checked a m i ≡ 0
-      checked_is = sym refusal_is ∙ h
+    pub type_id_refused : type_id_told (Err r) ≡ type_id_of a m i
+    unfolding type_id_of
+    type_id_refused = rw (← number, if_refused r)
 
-      pub column_is : s.column ≡ or_none (child_at a m i)
-      unfolding child_slot_of
-      column_is = rw (e, checked_is)
+    pub offset_refused : value_offset_told (Err r) ≡ value_offset_of a m i
+    unfolding value_offset_of
+    offset_refused = rw (← number, if_refused r)
 
-      pub slot_is : s.slot ≡ slot_at a m i
-      unfolding child_slot_of
-      slot_is = rw (e, checked_is)
+  -- ---- accepted ones
 
-      accepts : Accepted a m × SlotAccepted a m i
-      accepts = slot_accepted a m i checked_is
+  module _ (s : code.ChildSlot) (e : child_slot_told (Ok s) ≡ child_slot_of a m i) where
+    pub checked_is : slot_checked a m i ≡ 0
+    unfolding child_slot_of
+    checked_is = sym (ap (λ s. s.refusal) e)
 
-      -- its child's parts lie in lent memory, and the slot is one of the child's
-      pub child_in : column_in (amounts_of m) s.column ≡ true
-      child_in =
-          rw column_is (all_found (column_in (amounts_of m)) (in_use a) (type_id_at a m i) (or_none (child_at a m i)) accepts.0.parts (child_is a m accepts.0 i accepts.1))
+    pub column_is : s.column ≡ or_none (child_at a m i)
+    unfolding child_slot_of
+    column_is = ap (λ s. s.column) e ∙ rw (checked_is) refl
 
-      pub slot_within : s.slot < s.column.slots
-      slot_within = rw (column_is, slot_is) (slot_in a m accepts.0 i accepts.1)
+    pub slot_is : s.slot ≡ slot_at a m i
+    unfolding child_slot_of
+    slot_is = ap (λ s. s.slot) e ∙ rw (checked_is) refl
 
-      pub value_is : column_value s.column m s.slot ≡ value_of a m i
-      unfolding value_of
-      value_is = rw (column_is, slot_is, checked_is) (sym (ap (λ (o : Option Column). value_in o m (slot_at a m i)) (child_is a m accepts.0 i accepts.1)))
+    pub type_id_is : type_id_told (Ok s.id) ≡ type_id_of a m i
+    unfolding type_id_of child_slot_of
+    type_id_is = let f = ap (λ s. s.id) e in rw (f, checked_is)
+
+    pub value_offset_is : value_offset_told (Ok s.slot) ≡ value_offset_of a m i
+    unfolding value_offset_of
+    value_offset_is = rw (slot_is, checked_is)
+
+    accepts : Accepted a m × SlotAccepted a m i
+    accepts = slot_accepted a m i checked_is
+
+    -- its child's parts lie in lent memory, and the slot is one of the child's
+    pub child_in : column_in (amounts_of m) s.column ≡ true
+    child_in =
+        rw column_is (all_found (column_in (amounts_of m)) (in_use a) (type_id_at a m i) (or_none (child_at a m i)) accepts.0.parts (child_is a m accepts.0 i accepts.1))
+
+    pub slot_within : s.slot < s.column.slots
+    slot_within = rw (column_is, slot_is) (slot_in a m accepts.0 i accepts.1)
+
+    pub value_is : (v : codeValue.Value) → accepted_value v ≡ column_value s.column m s.slot → value_told (Ok v) ≡ value_of a m i
+    unfolding value_of
+    value_is v f = f ∙ rw (column_is, slot_is, checked_is) (sym (ap (λ (o : Option Column). value_in o m (slot_at a m i)) (child_is a m accepts.0 i accepts.1)))

@@ -2,8 +2,8 @@
 pub mod OnePass
 pub mod Accepted
 pub mod Checked
-pub mod ChildSlots
 pub mod Lookups
+pub mod ChildSlots
 pub mod Reading
 pub mod Runs
 pub mod Sliced

@@ -1,85 +1,105 @@
--- What the lookups of a whole array answer. Assumes nothing.
-use mathlib.Core.Path.{◌≡◌, refl, sym, ap, ◌∙◌}
+-- What each call answers, by the number of 1 to 6. Assumes nothing.
 use mathlib.Core.Bool.{Bool, true, false, not, true≢false}
-use mathlib.Core.Option.{Option, none, some}
 use mathlib.Core.List.{List, [], ◌∷◌, ◌++◌, map}
-use Prim.Native.Nat.{ℕ, zero, suc, ◌+◌, ◌-◌, ◌<◌}
+use mathlib.Core.Option.{none, some}
+use mathlib.Core.Path.{◌≡◌, refl, sym, ap, ap₂, ◌∙◌}
+use Prim.Native.Nat.{ℕ, zero, suc, ◌+◌, ◌-◌, ◌≤◌, ◌<◌}
 use lib.Dec.{eqb}
 use lib.IntN.{ℤ}
 use lib.ListN.{length, get_or, set, take, drop, replicate, length-map, get_or-map}
+use lib.Seq.{length-take-le, take_all}
+use native.Mathlib.Omega.{arith}
+use Rattle.std.specs.Prelude.{Ok, Err, Some, None, ok_or}
+use Rattle.std.specs.declared.option.Option as given
+use Rattle.array_columns.specs.declared.Refusal.{Refusal}
+use Rattle.array_columns.specs.declared.Refusal.TheVariants.{UnknownId}
+use Rattle.array_columns.specs.Buffers.{Buffers, amounts_of}
+use Rattle.array_columns.specs.Refusal.{if_yes, refusal_number}
 use Rattle.union_array.specs.Types.{Column, UnionArray, no_column, by_layout}
-use Rattle.array_columns.specs.Buffers.{Buffers, only_words, amounts_of}
-use Rattle.array_columns.specs.Refusal.{no, ◌then◌, if_yes}
-use Rattle.union_array.specs.Slots.{in_use, all, column_of, is_some, present, nulls_in}
+use Rattle.union_array.specs.Slots.{in_use, all, column_of, nulls_in}
 use Rattle.union_array.specs.Questions.{asked, column_in, presence_in}
-use Rattle.union_array.specs.Lookup.{Child, Flag, TypeNames, NamePlace, Shown, or_none, no_flag, flag_by, no_type_names, child_of, is_dense_of, is_nullable_of, type_names_of, type_ids_of, name_of, no_name}
-use Rattle.union_array.specs.Look.{Looked, look_of}
-use Rattle.array_columns.proofs.Tests.{refused_is}
+use Rattle.union_array.specs.Lookup.{NamePlace, Shown, child_told, type_names_told, flag_told, type_ids_told, child_of, is_dense_of, is_nullable_of, type_names_of, type_ids_of, name_of, no_name}
+use Rattle.union_array.specs.Look.{looked_told, look_of}
+use Rattle.array_columns.proofs.Numbered.{if_refused, then_refused}
 use Rattle.union_array.proofs.Accepted.{accepted}
+use Rattle.array_columns.proofs.Present.{presence_words, presence_in_lem}
 use Rattle.array_columns.proofs.Values.{fill_more}
-use Rattle.array_columns.proofs.Present.{presence_in_lem}
 use Rattle.array_columns.proofs.Columns.{all_less, all_more, all_at, take_more}
 
 module _ (a : UnionArray) (m : Buffers) where
   -- ---- child
 
-  by_found : (q : ℕ) (o : Option Column)
-      → ◌≡◌ {A = Child} (record { column = if_yes q (or_none o) no_column; refusal = q then no 11 (if_yes q (is_some o) false) })
-      (record { column = if_yes (q then no 11 (is_some o)) (or_none o) no_column; refusal = q then no 11 (is_some o) })
-  by_found zero none = refl
-  by_found zero (some c) = refl
-  by_found (suc q) o = refl
-
-  pub child_is : (id : ℤ) (l : Looked) (n : ℕ) → l ≡ look_of a m id → n ≡ (l.refusal then no 11 l.found)
-      → ◌≡◌ {A = Child} (record { column = l.column; refusal = n }) (child_of a m id)
+  pub child_refused : (id : ℤ) (r : Refusal) → looked_told (Err r) ≡ look_of a m id → child_told (Err r) ≡ child_of a m id
   unfolding look_of child_of
-  child_is id l n e f = rw (f, e) (by_found (asked a m) (column_of (in_use a) id))
+  child_refused id r e = rw (← ap (λ l. l.refusal) e, then_refused r, if_refused r)
 
-  -- ---- is_dense, is_nullable
+  pub child_missing : (id : ℤ) → looked_told (Ok None) ≡ look_of a m id → child_told (Err UnknownId) ≡ child_of a m id
+  unfolding look_of child_of
+  child_missing id e =
+      let z : 0 ≡ asked a m = ap (λ l. l.refusal) e in
+      let f : none ≡ if_yes (asked a m) (column_of (in_use a) id) none = ap (λ l. l.column) e in
+      rw (← z, ← (rw (← z) at f))
 
-  flag_refused : (r : ℕ) (b : Bool) → r ≡ asked a m → (r ≡ 0 → ⊥) → no_flag r ≡ flag_by (asked a m) b
-  flag_refused r b e h = rw (← e, refused_is r (record { refusal = 0; holds = b }) (no_flag r) h)
+  pub child_is : (id : ℤ) (c : Column) → looked_told (Ok (Some c)) ≡ look_of a m id → child_told (Ok c) ≡ child_of a m id
+  unfolding look_of child_of
+  child_is id c e =
+      let z : 0 ≡ asked a m = ap (λ l. l.refusal) e in
+      let f : some c ≡ if_yes (asked a m) (column_of (in_use a) id) none = ap (λ l. l.column) e in
+      rw (← z, ← (rw (← z) at f))
 
-  pub dense_refused : (r : ℕ) → r ≡ asked a m → (r ≡ 0 → ⊥) → no_flag r ≡ is_dense_of a m
-  unfolding is_dense_of
-  dense_refused r e h = flag_refused r (by_layout a.layout false true) e h
+  pub child_found : (id : ℤ) (o : given.Option Column) → looked_told (Ok o) ≡ look_of a m id → child_told (ok_or o UnknownId) ≡ child_of a m id
+  child_found id None e = child_missing id e
+  child_found id (Some c) e = child_is id c e
 
-  pub dense_is : (r : ℕ) (b : Bool) → r ≡ asked a m → r ≡ 0 → b ≡ by_layout a.layout false true → ◌≡◌ {A = Flag} (record { refusal = 0; holds = b }) (is_dense_of a m)
-  unfolding is_dense_of
-  dense_is r b e z f = rw (f, ← e, z)
+  -- ---- refused by 1 to 6
 
-  pub nullable_refused : (r : ℕ) → r ≡ asked a m → (r ≡ 0 → ⊥) → no_flag r ≡ is_nullable_of a m
-  unfolding is_nullable_of
-  nullable_refused r e h = flag_refused r (not (all (λ c. eqb (nulls_in c m) 0) (in_use a))) e h
+  module _ (r : Refusal) (e : refusal_number r ≡ asked a m) where
+    pub dense_refused : flag_told (Err r) ≡ is_dense_of a m
+    unfolding is_dense_of
+    dense_refused = rw (← e, if_refused r)
 
-  pub nullable_is : (r : ℕ) (b : Bool) → r ≡ asked a m → r ≡ 0 → b ≡ not (all (λ c. eqb (nulls_in c (only_words m.values m.masks)) 0) (in_use a))
-      → ◌≡◌ {A = Flag} (record { refusal = 0; holds = b }) (is_nullable_of a m)
-  unfolding is_nullable_of nulls_in present
-  nullable_is r b e z f = rw (f, ← e, z)
+    pub nullable_refused : flag_told (Err r) ≡ is_nullable_of a m
+    unfolding is_nullable_of
+    nullable_refused = rw (← e, if_refused r)
 
-  pub presences_in : asked a m ≡ 0 → all (presence_in (only_words m.values m.masks)) (in_use a) ≡ true
-  presences_in h = all_less (column_in (amounts_of m)) (presence_in (only_words m.values m.masks)) (in_use a) (presence_in_lem m) (accepted a m h).parts
+    pub names_refused : type_names_told (Err r) ≡ type_names_of a m
+    unfolding type_names_of
+    names_refused = rw (← e, if_refused r)
 
-  -- ---- type_names
+    pub ids_refused : type_ids_told (Err r) ≡ type_ids_of a m
+    unfolding type_ids_of
+    ids_refused = rw (← e, if_refused r)
 
-  pub names_refused : (r : ℕ) → r ≡ asked a m → (r ≡ 0 → ⊥) → no_type_names r ≡ type_names_of a m
-  unfolding type_names_of
-  names_refused r e h = rw (← e, refused_is r _ (no_type_names r) h)
+  -- ---- accepted by them
 
-  pub names_are : (r : ℕ) (names : List NamePlace) → r ≡ asked a m → r ≡ 0 → names ≡ map name_of (in_use a) ++ replicate (128 - a.fields) no_name
-      → ◌≡◌ {A = TypeNames} (record { names = names; count = a.fields; refusal = 0 }) (type_names_of a m)
-  unfolding type_names_of
-  names_are r names e z f = rw (f, ← e, z)
+  module _ (e : 0 ≡ asked a m) where
+    pub dense_is : (b : Bool) → b ≡ by_layout a.layout false true → flag_told (Ok b) ≡ is_dense_of a m
+    unfolding is_dense_of
+    dense_is b f = rw (f, ← e)
 
-  -- ---- type_ids
+    pub nullable_is : (b : Bool) → b ≡ not (all (λ c. eqb (nulls_in c m) 0) (in_use a)) → flag_told (Ok b) ≡ is_nullable_of a m
+    unfolding is_nullable_of
+    nullable_is b f = rw (f, ← e)
 
-  pub ids_refused : (r : ℕ) → r ≡ asked a m → (r ≡ 0 → ⊥) → ◌≡◌ {A = Shown} (record { refusal = r; ids = [] }) (type_ids_of a m)
-  unfolding type_ids_of
-  ids_refused r e h = rw (← e, refused_is r (take a.count (drop a.start m.ids)) [] h)
+    pub presences_in : all (presence_in m) (in_use a) ≡ true
+    presences_in = all_less (column_in (amounts_of m)) (presence_in m) (in_use a) (λ c h. presence_words m c ∙ presence_in_lem m c h) (accepted a m (sym e)).parts
 
-  pub ids_are : (r n : ℕ) → r ≡ asked a m → r ≡ 0 → n ≡ a.count → ◌≡◌ {A = Shown} (record { refusal = r; ids = take n (drop a.start m.ids) }) (type_ids_of a m)
-  unfolding type_ids_of
-  ids_are r n e z f = rw (← e, z, f)
+    pub names_are : length a.columns ≡ 128 → (names : List NamePlace) → names ≡ map name_of (in_use a) ++ replicate (128 - length (in_use a)) no_name
+        → type_names_told (Ok (record { names = names; count = a.fields })) ≡ type_names_of a m
+    unfolding type_names_of
+    names_are whole names f =
+        let few : a.fields ≤ 128 = (accepted a m (sym e)).few in
+        rw (f, length-take-le a.fields a.columns (omega arith), ← e)
+
+    pub few : a.fields ≤ 128
+    few = (accepted a m (sym e)).few
+
+    pub ids_in : a.start + a.count ≤ length m.ids
+    ids_in = (accepted a m (sym e)).ids
+
+    pub ids_are : (ids : List ℤ) → ids ≡ take a.count (drop a.start m.ids) → ◌≡◌ {A = Shown} (record { refusal = 0; ids = ids }) (type_ids_of a m)
+    unfolding type_ids_of
+    ids_are ids f = rw (f, ← e)
 
 -- ---- a list of columns, one by one
 
@@ -116,3 +136,8 @@ names_turn cs j names h k e =
 pub names_all : (cs : List Column) (n : ℕ) → names_to cs n ≡ map name_of (take n cs) ++ replicate (128 - n) no_name
 unfolding names_to
 names_all cs n = ap (λ (l : List NamePlace). l ++ replicate (128 - n) no_name) (take_map name_of n cs)
+
+pub names_whole : (cs : List Column) (j : ℕ) → j ≡ length cs → names_to cs j ≡ map name_of cs ++ replicate (128 - length cs) no_name
+names_whole cs j e =
+    names_all cs j
+    ∙ ap₂ ◌++◌ (ap (map name_of) (ap (λ (n : ℕ). take n cs) e ∙ take_all (length cs) cs (omega arith))) (ap (λ (n : ℕ). replicate (128 - n) no_name) e)

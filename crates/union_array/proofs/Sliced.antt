@@ -1,6 +1,9 @@
 -- What a slice is: one more child moved, and what an accepted array has can be moved. Assumes nothing.
 use mathlib.Core.Path.{◌≡◌, refl, sym, ap, ◌∙◌}
-use mathlib.Core.Bool.{Bool}
+use mathlib.Core.Bool.{true, false}
+use Rattle.std.specs.Prelude.{Ok, Err}
+use Rattle.array_columns.specs.declared.Refusal.{Refusal}
+use Rattle.array_columns.specs.declared.Refusal.TheVariants.{SliceRange}
 use mathlib.Core.List.{List, [], ◌∷◌, ◌++◌, map}
 use Prim.Native.Nat.{ℕ, zero, suc, ◌+◌, ◌^◌, ◌≤◌, ◌<◌}
 use native.Mathlib.Numerals.{add-one}
@@ -8,11 +11,11 @@ use native.Mathlib.Omega.{arith}
 use lib.ListN.{length, get_or, set, take, drop, replicate, take-append-drop}
 use Rattle.union_array.specs.Types.{Layout, Sparse, Dense, Column, UnionArray, no_column, no_array, narrowed, relisted}
 use Rattle.array_columns.specs.Buffers.{Buffers, amounts_of}
-use Rattle.array_columns.specs.Refusal.{no, ◌then◌, if_yes}
+use Rattle.array_columns.specs.Refusal.{refusal_number}
 use Rattle.union_array.specs.Questions.{question9, asked}
-use Rattle.union_array.specs.Slices.{Slice, moved_column, sliced, slice_checked, slice_of}
-use Rattle.union_array.specs.Movable.{Movable, no_slice}
-use Rattle.array_columns.proofs.Tests.{then_left, refused_is}
+use Rattle.union_array.specs.Slices.{moved_column, sliced, slice_told, slice_checked, slice_of}
+use Rattle.union_array.specs.Movable.{Movable}
+use Rattle.array_columns.proofs.Numbered.{if_refused, then_refused}
 use Rattle.union_array.proofs.Accepted.{Accepted, column_at_lem as column-accepted, slots_at, mask_part}
 
 -- ---- a list whose first j elements are changed by f
@@ -57,28 +60,25 @@ module _ (a : UnionArray) (o n : ℕ) where
   pub dense_is : a.layout ≡ Dense → narrowed Dense o n a ≡ sliced a o n
   dense_is e = rw (same_columns a.fields a.columns) at (sliced_is Dense e)
 
-  pub column_at_lem : (s : UnionArray) (j : ℕ) → s ≡ sliced_to Sparse j → get_or s.columns j no_column ≡ get_or a.columns j no_column
-  column_at_lem s j e = rw e (map_at (moved_column Sparse o n) no_column a.columns j)
-
-  pub one_more : (s : UnionArray) (j : ℕ) (c : Column) → s ≡ sliced_to Sparse j → c ≡ moved_column Sparse o n (get_or s.columns j no_column)
-      → relisted s (set s.columns j c) ≡ sliced_to Sparse (j + 1)
-  one_more s j c e f = rw (f, column_at_lem s j e, e, map_more (moved_column Sparse o n) no_column a.columns j)
+  pub sparse_is : (cs : List Column) → a.layout ≡ Sparse → cs ≡ map (moved_column Sparse o n) (take a.fields a.columns)
+      → relisted (narrowed Sparse o n a) (cs ++ drop a.fields a.columns) ≡ sliced a o n
+  sparse_is cs e f = rw f (sliced_is Sparse e)
 
 -- ---- the call
 
 module _ (a : UnionArray) (m : Buffers) (o n : ℕ) where
-  -- its answer by its number
-  abbrev by_slice : ℕ → Slice
-  by_slice r = record { array = if_yes r (sliced a o n) no_array; refusal = r }
-
-  pub slice_refused : (r : ℕ) → r ≡ asked a m → (r ≡ 0 → ⊥) → no_slice r ≡ slice_of a m o n
+  pub slice_refused : (r : Refusal) → refusal_number r ≡ asked a m → slice_told (Err r) ≡ slice_of a m o n
   unfolding slice_of slice_checked
-  slice_refused r e h =
-      sym (ap by_slice (ap (λ (q : ℕ). q then no 9 (question9 a o n)) (sym e) ∙ then_left r _ h) ∙ rw (refused_is r (sliced a o n) no_array h))
+  slice_refused r e = rw (← e, then_refused r, if_refused r)
 
-  pub slice_is : (r : ℕ) (b : Bool) → r ≡ asked a m → r ≡ 0 → b ≡ question9 a o n → by_slice (no 9 b) ≡ slice_of a m o n
-  unfolding slice_of slice_checked
-  slice_is r b e z f = sym (ap by_slice (ap (λ (q : ℕ). q then no 9 (question9 a o n)) (sym e ∙ z) ∙ ap (no 9) (sym f)))
+  module _ (e : 0 ≡ asked a m) where
+    pub slice_outside : question9 a o n ≡ false → slice_told (Err SliceRange) ≡ slice_of a m o n
+    unfolding slice_of slice_checked
+    slice_outside f = rw (← e, f)
+
+    pub slice_is : question9 a o n ≡ true → slice_told (Ok (sliced a o n)) ≡ slice_of a m o n
+    unfolding slice_of slice_checked
+    slice_is f = rw (← e, f)
 
 -- what an accepted array has can be moved
 pub movable : (a : UnionArray) (m : Buffers) → Accepted a m → length a.columns ≡ 128

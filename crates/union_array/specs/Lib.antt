@@ -7,6 +7,4 @@ pub mod Slices
 pub mod Values
 -- What the contracts of inner functions cite.
 pub mod Look
-pub mod Pass
-pub mod ChildSlot
 pub mod Movable

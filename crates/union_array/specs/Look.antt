@@ -1,25 +1,50 @@
--- What one pass over the columns tells every call: the first no of 1 to 6, and the column with an id.
-use Rattle.std.specs.Prelude.{false, ℕ, ℤ}
-use Rattle.union_array.specs.Types.{UnionArray, no_column}
+-- What one pass over the columns tells every call: the first no of 1 to 6, and the column with an id; and what the slot lookups share.
+use Rattle.std.specs.Prelude.{ℕ, ℤ, pos, Result, Ok, Err}
+use Rattle.std.proofs.Math.Option.{Option, none}
+use Rattle.std.specs.declared.option.Option as given
+use Rattle.union_array.specs.Types.{Amounts, Column, UnionArray, no_column}
 use Rattle.array_columns.specs.Buffers.{Buffers}
-use Rattle.array_columns.specs.Refusal.{if_yes}
-use Rattle.union_array.specs.Slots.{in_use, column_of, is_some}
-use Rattle.union_array.specs.Questions.{asked}
+use Rattle.array_columns.specs.declared.Refusal.{Refusal}
+use Rattle.array_columns.specs.Refusal.{no, ◌then◌, if_yes, refusal_number}
+use Rattle.array_columns.specs.Pass.{column_told}
+use Rattle.union_array.specs.Slots.{in_use, column_of, type_id_at, child_at, slot_at}
+use Rattle.union_array.specs.Questions.{question1, question2, question3, question4, question5, question6, asked, slot_checked}
 use Rattle.union_array.specs.Lookup.{or_none}
-pub use Rattle.array_slots.specs.declared.Looked.{Looked}
+pub use Rattle.array_slots.specs.ChildSlot.{ChildSlot}
 
--- refused: no column
-abbrev pub not_looked : ℕ → Looked
-not_looked n = record { column = no_column; refusal = n; found = false }
+-- 1 to 6 by the amounts lent: they ask how much is lent, not what it holds
+unfoldable pub asked_of : UnionArray → Amounts → ℕ
+asked_of a lent =
+    no 1 (question1 a)
+    then no 2 (question2 a)
+    then no 3 (question3 a lent)
+    then no 4 (question4 a)
+    then no 5 (question5 a)
+    then no 6 (question6 a)
 
--- by a refusal's number: of an accepted array the column with an id, and whether there is one
-abbrev pub looked_by : UnionArray → ℤ → ℕ → Looked
-looked_by a id n = record {
-  column = if_yes n (or_none (column_of (in_use a) id)) no_column;
-  refusal = n;
-  found = if_yes n (is_some (column_of (in_use a) id)) false;
-}
+-- a column if there is one, and a number
+pub record Looked : Type 0 where
+  pub column : Option Column
+  pub refusal : ℕ
 
--- the first no of 1 to 6, and the column with an id
+-- by a refusal's number: the column, none when refused
+abbrev pub looked_by : Option Column → ℕ → Looked
+looked_by o n = record { column = if_yes n o none; refusal = n }
+
+-- the first no of 1 to 6; of an accepted array the column with an id
 unfoldable pub look_of : UnionArray → Buffers → ℤ → Looked
-look_of a m id = looked_by a id (asked a m)
+look_of a m id = looked_by (column_of (in_use a) id) (asked a m)
+
+-- of each case of the code's answer, the column and document 01's number
+abbrev pub looked_told : Result (given.Option Column) Refusal → Looked
+looked_told (Ok c) = record { column = column_told c; refusal = 0 }
+looked_told (Err r) = record { column = none; refusal = refusal_number r }
+
+-- the first no of 1 to 6, 10, 7 and 8 of slot i; of an accepted slot its child, its slot in it and its type id
+unfoldable pub child_slot_of : UnionArray → Buffers → ℕ → ChildSlot
+child_slot_of a m i = record {
+  column = if_yes (slot_checked a m i) (or_none (child_at a m i)) no_column;
+  slot = if_yes (slot_checked a m i) (slot_at a m i) 0;
+  refusal = slot_checked a m i;
+  id = if_yes (slot_checked a m i) (type_id_at a m i) (pos 0);
+}

@@ -1,19 +1,46 @@
 -- What each call on an array answers, on every input: slices are in Slices.antt.
-use Rattle.std.specs.Prelude.{Bool, true, false, not, List, [], ◌++◌, map, ℕ, ◌-◌, eqb, ℤ, pos, take, drop, replicate}
+use Rattle.std.specs.Prelude.{Bool, true, false, not, List, [], ◌++◌, map, ℕ, ◌-◌, eqb, ℤ, pos, take, drop, replicate, Result, Ok, Err}
 use Rattle.union_array.specs.Types.{Column, UnionArray, no_column, by_layout}
 use Rattle.array_columns.specs.Buffers.{Buffers}
 use Rattle.array_columns.specs.Refusal.{no, ◌then◌, if_yes}
 use Rattle.union_array.specs.Slots.{in_use, all, column_of, type_id_at, child_at, slot_at, nulls_in}
 use Rattle.union_array.specs.Questions.{asked, checked, slot_checked, question11}
-pub use Rattle.union_array.specs.declared.TypeId.{TypeId}
-pub use Rattle.union_array.specs.declared.ValueOffset.{ValueOffset}
-pub use Rattle.union_array.specs.declared.Child.{Child}
 pub use Rattle.union_array.specs.declared.NamePlace.{NamePlace}
-pub use Rattle.union_array.specs.declared.TypeNames.{TypeNames}
-pub use Rattle.union_array.specs.declared.Flag.{Flag}
-pub use Rattle.array_columns.specs.declared.Value.{Value}
+use Rattle.union_array.specs.declared.TypeNames as code
+use Rattle.std.specs.Borrow.{Bor}
+use Rattle.array_columns.specs.declared.Refusal.{Refusal}
+use Rattle.array_columns.specs.Refusal.{refusal_number}
+pub use Rattle.array_columns.specs.Lookup.{Value, value_told}
 pub use Rattle.array_columns.specs.Lookup.{no_value, value_in, or_none}
 unfoldable pub use Rattle.array_columns.specs.Lookup.{padded, column_value}
+
+-- ---- answers, in document 01's numbers; "A "no" ends the call with that number, .. all other answer fields 0"
+
+-- what type_id answers
+pub record TypeId : Type 0 where
+  pub refusal : ℕ
+  pub id : ℤ
+
+-- what value_offset answers
+pub record ValueOffset : Type 0 where
+  pub offset : ℕ
+  pub refusal : ℕ
+
+-- what child answers
+pub record Child : Type 0 where
+  pub column : Column
+  pub refusal : ℕ
+
+-- what type_names answers
+pub record TypeNames : Type 0 where
+  pub names : List NamePlace
+  pub count : ℕ
+  pub refusal : ℕ
+
+-- what is_dense and is_nullable answer
+pub record Flag : Type 0 where
+  pub refusal : ℕ
+  pub holds : Bool
 
 -- try_new: "asks 1 to 8"
 abbrev pub try_new_of : UnionArray → Buffers → ℕ
@@ -83,3 +110,29 @@ type_ids_of a m = record {
   refusal = asked a m;
   ids = if_yes (asked a m) (take a.count (drop a.start m.ids)) [];
 }
+
+-- ---- of each case of the code's answers, document 01's number and values
+
+abbrev pub type_id_told : Result ℤ Refusal → TypeId
+type_id_told (Ok id) = record { refusal = 0; id = id }
+type_id_told (Err r) = record { refusal = refusal_number r; id = pos 0 }
+
+abbrev pub value_offset_told : Result ℕ Refusal → ValueOffset
+value_offset_told (Ok offset) = record { offset = offset; refusal = 0 }
+value_offset_told (Err r) = record { offset = 0; refusal = refusal_number r }
+
+abbrev pub child_told : Result Column Refusal → Child
+child_told (Ok c) = record { column = c; refusal = 0 }
+child_told (Err r) = record { column = no_column; refusal = refusal_number r }
+
+abbrev pub type_names_told : Result code.TypeNames Refusal → TypeNames
+type_names_told (Ok t) = record { names = t.names; count = t.count; refusal = 0 }
+type_names_told (Err r) = no_type_names (refusal_number r)
+
+abbrev pub flag_told : Result Bool Refusal → Flag
+flag_told (Ok b) = record { refusal = 0; holds = b }
+flag_told (Err r) = no_flag (refusal_number r)
+
+abbrev pub type_ids_told : Result (Bor (List ℤ)) Refusal → Shown
+type_ids_told (Ok ids) = record { refusal = 0; ids = ids.now }
+type_ids_told (Err r) = record { refusal = refusal_number r; ids = [] }

@@ -13,6 +13,7 @@ use array_columns::{Column, Layout};
 // A union array: its column list, and the parts of the lent type ids and offsets that are its own.
 #[derive(Clone, Copy)]
 pub struct UnionArray {
+    // At most 128, in place: the library has no heap.
     pub columns: [Column; 128],
     pub fields: usize,
     pub children: usize,
@@ -23,29 +24,8 @@ pub struct UnionArray {
     pub layout: Layout,
 }
 
-// What `type_id` answers.
-#[derive(Clone, Copy)]
-pub struct TypeId {
-    pub refusal: u8,
-    pub id: i8,
-}
-
-// What `value_offset` answers.
-#[derive(Clone, Copy)]
-pub struct ValueOffset {
-    pub offset: usize,
-    pub refusal: u8,
-}
-
-// What `child` answers.
-#[derive(Clone, Copy)]
-pub struct Child {
-    pub column: Column,
-    pub refusal: u8,
-}
-
 // A name's place in the lent bytes, and its length.
-#[derive(Clone, Copy)]
+#[derive(Clone, Copy, Debug, PartialEq, Eq)]
 pub struct NamePlace {
     pub start: usize,
     pub size: u8,
@@ -54,21 +34,7 @@ pub struct NamePlace {
 // What `type_names` answers: the first `count` places, in list order.
 #[derive(Clone, Copy)]
 pub struct TypeNames {
+    // As many as there can be columns, in place: the library has no heap.
     pub names: [NamePlace; 128],
     pub count: usize,
-    pub refusal: u8,
-}
-
-// What `is_dense` and `is_nullable` answer.
-#[derive(Clone, Copy)]
-pub struct Flag {
-    pub refusal: u8,
-    pub holds: bool,
-}
-
-// What `slice` answers.
-#[derive(Clone, Copy)]
-pub struct Slice {
-    pub array: UnionArray,
-    pub refusal: u8,
 }

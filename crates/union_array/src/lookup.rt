@@ -1,74 +1,49 @@
 // Slot lookups: value, type_id, value_offset.
 ghost use Rattle.std.specs.Prelude.{◌≡◌};
-ghost use Rattle.array_columns.specs.Buffers.{buffers_of};
-ghost use Rattle.union_array.specs.Lookup.{value_of, type_id_of, value_offset_of};
+ghost use Rattle.array_slots.specs.ChildSlot.{child_slot_told};
+ghost use Rattle.union_array.specs.Look.{child_slot_of};
+ghost use Rattle.union_array.specs.Lookup.{value_told, value_of, type_id_told, type_id_of, value_offset_told, value_offset_of};
 
-use crate::{TypeId, UnionArray, ValueOffset, questions};
-use array_columns::{Value, child_value};
-use array_slots::lookup::{id_at, slot_in_child};
+use crate::UnionArray;
+use array_columns::{Buffers, Refusal, Value};
+use array_slots::ChildSlot;
+use array_slots::lookup::{item_at, slot_in_child};
 
 impl UnionArray {
-    // Slot i's id, name, kind and value.
-    pub fn value(
-        self,
-        i: usize,
-        type_ids: &[i8],
-        offsets: &[i32],
-        values: &[u64],
-        masks: &[u64],
-        names: &[u8],
-    ) -> Value
-        ensures { result ≡ value_of self (buffers_of type_ids.now offsets.now values.now masks.now names.now) i }
+    // Slot i's child, its slot in it and its type id: asks 1 to 6, 10, and 7 and 8 of the slot.
+    #[tactic(auto, using(crate::proofs::ChildSlots::slot_refused, crate::proofs::ChildSlots::settled_is))]
+    fn child_slot(&self, i: usize, lent: &Buffers) -> Result<ChildSlot, Refusal>
+        ensures { child_slot_told result ≡ child_slot_of self.now lent.now i }
     {
-        let id = id_at(type_ids, self.start, i);
-        let l = questions::look(self, id, type_ids, offsets, values, masks, names);
-        let s = slot_in_child(l, questions::head_of(self), i, id, offsets);
-        if s.refusal != 0 {
-            return child_value::no_value(s.refusal);
-        }
-        let c = s.column;
-        child_value::column_value(c, s.slot, values, masks, names)
+        let id = item_at(lent.type_ids, self.start, i, 0);
+        let column = self.look(id, lent)?;
+        slot_in_child(column, self.head(), i, id, lent.offsets)
+    }
+
+    // Slot i's id, name, kind and value.
+    #[tactic(auto, using(crate::proofs::ChildSlots::value_refused, crate::proofs::ChildSlots::value_is, crate::proofs::ChildSlots::child_in, crate::proofs::ChildSlots::slot_within))]
+    pub fn value(self, i: usize, lent: &Buffers) -> Result<Value, Refusal>
+        ensures { value_told result ≡ value_of self lent.now i }
+    {
+        let s = self.child_slot(i, lent)?;
+        Ok(s.column.value(lent, s.slot))
     }
 
     // Slot i's type id.
-    pub fn type_id(
-        self,
-        i: usize,
-        type_ids: &[i8],
-        offsets: &[i32],
-        values: &[u64],
-        masks: &[u64],
-        names: &[u8],
-    ) -> TypeId
-        ensures { result ≡ type_id_of self (buffers_of type_ids.now offsets.now values.now masks.now names.now) i }
+    #[tactic(auto, using(crate::proofs::ChildSlots::type_id_refused, crate::proofs::ChildSlots::type_id_is))]
+    pub fn type_id(self, i: usize, lent: &Buffers) -> Result<i8, Refusal>
+        ensures { type_id_told result ≡ type_id_of self lent.now i }
     {
-        let id = id_at(type_ids, self.start, i);
-        let l = questions::look(self, id, type_ids, offsets, values, masks, names);
-        let s = slot_in_child(l, questions::head_of(self), i, id, offsets);
-        TypeId {
-            refusal: s.refusal,
-            id: s.id,
-        }
+        let s = self.child_slot(i, lent)?;
+        Ok(s.id)
     }
 
     // Slot i's slot in its child.
-    pub fn value_offset(
-        self,
-        i: usize,
-        type_ids: &[i8],
-        offsets: &[i32],
-        values: &[u64],
-        masks: &[u64],
-        names: &[u8],
-    ) -> ValueOffset
-        ensures { result ≡ value_offset_of self (buffers_of type_ids.now offsets.now values.now masks.now names.now) i }
+    #[tactic(auto, using(crate::proofs::ChildSlots::offset_refused, crate::proofs::ChildSlots::value_offset_is))]
+    pub fn value_offset(self, i: usize, lent: &Buffers) -> Result<usize, Refusal>
+        ensures { value_offset_told result ≡ value_offset_of self lent.now i }
     {
-        let id = id_at(type_ids, self.start, i);
-        let l = questions::look(self, id, type_ids, offsets, values, masks, names);
-        let s = slot_in_child(l, questions::head_of(self), i, id, offsets);
-        ValueOffset {
-            offset: s.slot,
-            refusal: s.refusal,
-        }
+        let s = self.child_slot(i, lent)?;
+        Ok(s.slot)
     }
 }

@@ -1,94 +1,96 @@
-// Questions 1 to 6, which every call on an array asks, in one pass over its columns.
-ghost use Rattle.std.specs.Prelude.{◌≡◌, ◌<◌};
-ghost use Rattle.union_array.specs.Types.{head_of, array_of};
-ghost use Rattle.array_columns.specs.Buffers.{buffers_of};
+// Questions 1 to 6, which every call on an array asks.
+ghost use Rattle.std.specs.Prelude.{◌≡◌};
+ghost use Rattle.array_columns.specs.Refusal.{no, ◌then◌, number_of};
+ghost use Rattle.array_columns.specs.Pass.{column_told};
+ghost use Rattle.union_array.specs.Types.{head_of};
 ghost use Rattle.union_array.specs.Questions.{asked};
-ghost use Rattle.union_array.specs.Look.{not_looked, looked_by, look_of};
-ghost use Rattle.union_array.specs.Pass.{asked_of};
+ghost use Rattle.union_array.specs.Look.{looked_told, looked_by, look_of};
 
 use crate::UnionArray;
-use array_columns::questions::{amounts, first_no, head_fault, is_dense, no_column, pass};
-use array_columns::{Amounts, Column, Head};
-use array_slots::Looked;
+use array_columns::questions::{part_in, pass};
+use array_columns::{Buffers, Column, Head, Passed, Refusal};
 
-// The array but for its columns.
-pub(crate) fn head_of(a: UnionArray) -> Head
-    ensures { result ≡ head_of a }
+// The first no of 1 to 6, by their answers, or the column that was found.
+fn first_no(
+    p: &Passed,
+    children: bool,
+    parts: bool,
+    counts: bool,
+    offsets: bool,
+) -> Result<Option<Column>, Refusal>
+    ensures { looked_told result ≡ looked_by (column_told p.now.column) (no 1 p.now.ids then no 2 children then no 3 parts then no 4 counts then no 5 offsets then no 6 p.now.slots) }
 {
-    let l = a.layout;
-    Head {
-        fields: a.fields,
-        children: a.children,
-        start: a.start,
-        count: a.count,
-        offsets_start: a.offsets_start,
-        offsets_count: a.offsets_count,
-        layout: l,
+    if !p.ids {
+        return Err(Refusal::FieldIds);
     }
+    if !children {
+        return Err(Refusal::ChildCount);
+    }
+    if !parts {
+        return Err(Refusal::PartNotLent);
+    }
+    if !counts {
+        return Err(Refusal::TooManySlots);
+    }
+    if !offsets {
+        return Err(Refusal::OffsetCount);
+    }
+    if !p.slots {
+        return Err(Refusal::ChildSlots);
+    }
+    Ok(p.column)
 }
 
-// The answer of a refused call.
-fn refused(refusal: u8) -> Looked
-    ensures { result ≡ not_looked refusal }
-{
-    Looked {
-        column: no_column(),
-        refusal: refusal,
-        found: false,
+impl UnionArray {
+    // The array but for its columns.
+    pub(crate) fn head(&self) -> Head
+        ensures { result ≡ head_of self.now }
+    {
+        Head {
+            fields: self.fields,
+            children: self.children,
+            start: self.start,
+            count: self.count,
+            offsets_start: self.offsets_start,
+            offsets_count: self.offsets_count,
+            layout: self.layout,
+        }
     }
-}
 
-// 1 to 6 by the amounts lent, and the column with an id, of an array in its two parts.
-fn look_in(h: Head, columns: [Column; 128], lent: Amounts, id: i8) -> Looked
-    ensures { result ≡ looked_by (array_of h columns) id (asked_of (array_of h columns) lent) }
-{
-    if 128 < h.fields {
-        return refused(1);
+    // 1 to 6, and the column with an id, if there is one.
+    #[tactic(auto, using(crate::proofs::OnePass::many))]
+    pub(crate) fn look(&self, id: i8, lent: &Buffers) -> Result<Option<Column>, Refusal>
+        ensures { looked_told result ≡ look_of self.now lent.now id }
+    {
+        if 128 < self.fields {
+            return Err(Refusal::FieldIds);
+        }
+        let amounts = lent.amounts();
+        let layout = self.layout;
+        let p = pass(
+            &self.columns[..self.fields],
+            &amounts,
+            layout,
+            self.count,
+            id,
+        );
+        let ids = part_in(self.start, self.count, amounts.ids);
+        let offsets = layout.offsets_in(self.offsets_start, self.offsets_count, amounts.offsets);
+        first_no(
+            &p,
+            self.children == self.fields,
+            ids && offsets && p.parts,
+            self.count <= 65536 && p.counts,
+            layout.offsets_match(self.offsets_count, self.count),
+        )
     }
-    let l = h.layout;
-    let p = pass(columns, h.fields, lent, h.count, is_dense(l), id);
-    let r = first_no(p.fault, head_fault(h, lent));
-    if r != 0 {
-        return refused(r);
-    }
-    let c = p.column;
-    Looked {
-        column: c,
-        refusal: 0,
-        found: p.found,
-    }
-}
 
-// 1 to 6, and the column with an id.
-pub(crate) fn look(
-    a: UnionArray,
-    id: i8,
-    type_ids: &[i8],
-    offsets: &[i32],
-    values: &[u64],
-    masks: &[u64],
-    names: &[u8],
-) -> Looked
-    ensures { result ≡ look_of a (buffers_of type_ids.now offsets.now values.now masks.now names.now) id }
-{
-    let columns = a.columns;
-    let lent = amounts(type_ids, offsets, values, masks, names);
-    look_in(head_of(a), columns, lent, id)
-}
-
-// 1 to 6: the number of the first no, 0 if there is none.
-pub fn ask(
-    a: UnionArray,
-    type_ids: &[i8],
-    offsets: &[i32],
-    values: &[u64],
-    masks: &[u64],
-    names: &[u8],
-) -> u8
-    ensures { result ≡ asked a (buffers_of type_ids.now offsets.now values.now masks.now names.now) }
-{
-    let columns = a.columns;
-    let lent = amounts(type_ids, offsets, values, masks, names);
-    let l = look_in(head_of(a), columns, lent, 0);
-    l.refusal
+    // Questions 1 to 6.
+    #[tactic(auto, using(crate::proofs::OnePass::asked_err, crate::proofs::OnePass::asked_ok))]
+    pub fn ask(&self, lent: &Buffers) -> Result<(), Refusal>
+        ensures { number_of result ≡ asked self.now lent.now }
+    {
+        self.look(0, lent)?;
+        Ok(())
+    }
 }

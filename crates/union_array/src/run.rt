@@ -1,43 +1,34 @@
 // Runs of lookups: the description is asked once.
 ghost use Rattle.std.specs.Prelude.{◌≡◌};
-ghost use Rattle.array_columns.specs.Buffers.{buffers_of};
+ghost use Rattle.array_columns.specs.Refusal.{number_of};
 ghost use Rattle.union_array.specs.Values.{values_answer, values_of};
 
-use crate::{UnionArray, questions};
+use crate::UnionArray;
+use array_columns::{Buffers, Refusal};
 use array_slots::run::run;
 
 impl UnionArray {
-    // The ids, the presence (1 where missing) and the values of n slots from `first` on, as `value` tells them one by one.
+    // The ids, the presence (1 where missing) and the values of n slots from `first` on, as `value` tells them one by one. The outputs
+    // are three slices, since C hands over three.
+    #[tactic(auto, using(crate::proofs::Runs::run_refused, crate::proofs::Runs::run_is, crate::proofs::Checked::valued))]
     pub fn values(
         self,
         first: usize,
         n: usize,
-        type_ids: &[i8],
-        offsets: &[i32],
-        values: &[u64],
-        masks: &[u64],
-        names: &[u8],
+        lent: &Buffers,
         ids: &mut [i8],
         missing: &mut [u8],
         bits: &mut [u64],
-    ) -> u8
-        ensures { values_answer result ids.new missing.new bits.new
-            ≡ values_of self (buffers_of type_ids.now offsets.now values.now masks.now names.now) first n ids.old missing.old bits.old }
+    ) -> Result<(), Refusal>
+        ensures { values_answer (number_of result) ids.new missing.new bits.new ≡ values_of self lent.now first n ids.old missing.old bits.old }
     {
-        let r = questions::ask(self, type_ids, offsets, values, masks, names);
-        if r != 0 {
-            return r;
-        }
-        let columns = self.columns;
+        self.ask(lent)?;
         run(
-            questions::head_of(self),
-            columns,
+            self.head(),
+            &self.columns,
             first,
             n,
-            type_ids,
-            offsets,
-            values,
-            masks,
+            lent,
             ids,
             missing,
             bits,

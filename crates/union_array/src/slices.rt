@@ -1,109 +1,95 @@
 // Slices: the same memory under a moved description.
-ghost use Rattle.std.specs.Prelude.{◌≡◌, ◌+◌, ◌<◌};
-ghost use Rattle.union_array.specs.Types.{Sparse, no_array};
-ghost use Rattle.array_columns.specs.Buffers.{buffers_of};
-ghost use Rattle.union_array.specs.Slices.{moved_column, sliced, slice_of};
-ghost use Rattle.union_array.specs.Movable.{Movable, ColumnMovable, no_slice};
+ghost use Rattle.std.specs.Prelude.{◌≡◌, ℕ, ◌<◌, map, length, get_or};
+ghost use Rattle.union_array.specs.Types.{Sparse, no_column, no_array};
+ghost use Rattle.union_array.specs.Slices.{moved_column, sliced, slice_told, slice_of};
+ghost use Rattle.union_array.specs.Movable.{Movable, ColumnMovable};
 
-use crate::{Slice, UnionArray, questions};
-use array_columns::{Column, Layout};
+use crate::UnionArray;
+use array_columns::questions::part_in;
+use array_columns::{Buffers, Column, Layout, Refusal};
 
-// A sparse array's child, its words and mask bits moved by o, with n slots.
-fn move_column(c: Column, o: usize, n: usize) -> Column
-    requires { (ColumnMovable c o) × (n < 65537) }
-    ensures { result ≡ moved_column Sparse o n c }
+// A sparse array's child, its words and mask bits moved by o, with n slots. That n fits 32 bits is said at each of the three functions:
+// it is no more than a bound that one hands to the next.
+fn move_column(c: &mut Column, o: usize, n: usize)
+    requires { (ColumnMovable c.old o) × (n < 65537) }
+    ensures { c.new ≡ moved_column Sparse o n c.old }
 {
-    let mut d = c;
-    d.values = c.values + o;
-    d.slots = n as u32;
+    c.values += o;
+    c.slots = n as u32;
     if c.masked {
         let bit = c.bit as usize + o;
-        d.mask = c.mask + bit / 64;
-        d.bit = (bit % 64) as u8;
-    }
-    d
-}
-
-// Slots o to o + n - 1 of an array.
-fn cut(a: UnionArray, o: usize, n: usize) -> UnionArray
-    requires { (Movable a o) × (n < 65537) }
-    ensures { result ≡ sliced a o n }
-{
-    let mut s = a;
-    s.start = a.start + o;
-    s.count = n;
-    let layout = a.layout;
-    match layout {
-        Layout::Dense => {
-            s.offsets_start = a.offsets_start + o;
-            s.offsets_count = n;
-        }
-        Layout::Sparse => {
-            let mut j: usize = 0;
-            while j < a.fields {
-                let c = s.columns[j];
-                s.columns[j] = move_column(c, o, n);
-                j += 1;
-            }
-        }
-    }
-    s
-}
-
-// The empty description.
-pub fn no_array() -> UnionArray
-    ensures { result ≡ no_array }
-{
-    let c = array_columns::questions::no_column();
-    let columns = [c; 128];
-    UnionArray {
-        columns: columns,
-        fields: 0,
-        children: 0,
-        start: 0,
-        count: 0,
-        offsets_start: 0,
-        offsets_count: 0,
-        layout: Layout::Sparse,
+        c.mask += bit / 64;
+        c.bit = (bit % 64) as u8;
     }
 }
 
-// A refused slice's answer.
-fn no_slice(refusal: u8) -> Slice
-    ensures { result ≡ no_slice refusal }
+// A sparse array's children, each moved by o, with n slots.
+fn move_columns(columns: &mut [Column], o: usize, n: usize)
+    requires movable { (j : ℕ) → j < length columns.old → ColumnMovable (get_or columns.old j no_column) o }
+    requires n_in { n < 65537 }
+    ensures { columns.new ≡ map (moved_column Sparse o n) columns.old }
 {
-    let array = no_array();
-    Slice {
-        array: array,
-        refusal: refusal,
+    for c in columns.iter_mut() {
+        move_column(c, o, n);
     }
 }
 
 impl UnionArray {
-    // Slots o to o + n - 1.
-    pub fn slice(
-        self,
-        o: usize,
-        n: usize,
-        type_ids: &[i8],
-        offsets: &[i32],
-        values: &[u64],
-        masks: &[u64],
-        names: &[u8],
-    ) -> Slice
-        ensures { result ≡ slice_of self (buffers_of type_ids.now offsets.now values.now masks.now names.now) o n }
+    // The empty description.
+    pub fn empty() -> UnionArray
+        ensures { result ≡ no_array }
     {
-        let r = questions::ask(self, type_ids, offsets, values, masks, names);
-        if r != 0 {
-            return no_slice(r);
+        UnionArray {
+            columns: [Column::zeros(); 128],
+            fields: 0,
+            children: 0,
+            start: 0,
+            count: 0,
+            offsets_start: 0,
+            offsets_count: 0,
+            layout: Layout::Sparse,
         }
-        if !array_columns::questions::part_in(o, n, self.count) {
-            return no_slice(9);
+    }
+
+    // Slots o to o + n - 1 of the array.
+    #[tactic(auto, using(crate::proofs::Sliced::dense_is, crate::proofs::Sliced::sparse_is))]
+    fn cut(self, o: usize, n: usize) -> UnionArray
+        requires { (Movable self o) × (n < 65537) }
+        ensures { result ≡ sliced self o n }
+    {
+        let start = self.start + o;
+        match self.layout {
+            Layout::Dense => UnionArray {
+                start,
+                count: n,
+                offsets_start: self.offsets_start + o,
+                offsets_count: n,
+                ..self
+            },
+            Layout::Sparse => {
+                let mut columns = self.columns;
+                move_columns(&mut columns[..self.fields], o, n);
+                UnionArray {
+                    columns,
+                    start,
+                    count: n,
+                    ..self
+                }
+            }
         }
-        let array = cut(self, o, n);
-        Slice {
-            array: array,
-            refusal: 0,
+    }
+
+    // Slots o to o + n - 1.
+    #[tactic(auto, using(crate::proofs::Sliced::slice_refused, crate::proofs::Sliced::slice_outside, crate::proofs::Sliced::slice_is))]
+    pub fn slice(self, o: usize, n: usize, lent: &Buffers) -> Result<UnionArray, Refusal>
+        ensures { slice_told result ≡ slice_of self lent.now o n }
+    {
+        // Named for the proof: what is lent fits the address space, so the moved starts do.
+        let _ = &lent.masks;
+        self.ask(lent)?;
+        if !part_in(o, n, self.count) {
+            return Err(Refusal::SliceRange);
         }
+        Ok(self.cut(o, n))
     }
 }

@@ -1,80 +1,90 @@
 -- Runs of appends. Assumes nothing.
 use mathlib.Core.Bool.{Bool, true, false, cond}
-use mathlib.Core.Option.{Option}
-use mathlib.Core.List.{List, [], ◌∷◌}
+use mathlib.Core.Option.{Option, none, some}
+use mathlib.Core.List.{List}
 use mathlib.Core.Path.{◌≡◌, refl, sym, ap, ap₂, ◌∙◌}
-use Prim.Native.Nat.{ℕ, zero, suc, ◌+◌, ◌<◌, ◌≤◌}
+use Prim.Native.Nat.{ℕ, zero, suc, ◌+◌}
 use native.Mathlib.Omega.{arith}
 use lib.ListN.{length, get_or, set, take, drop}
-use lib.Seq.{length-take-le}
-use borrow.Author.Tests.{lt-ltb, le-leb, lt-leb}
+use Rattle.std.specs.Prelude.{Result, Ok, Err, IfOk}
 use Rattle.bitmap.specs.Lists.{times}
-use Rattle.bitmap.proofs.Tables.{three, times_more}
+use Rattle.bitmap.proofs.Tables.{times_more}
 use Rattle.array_columns.specs.declared.Kind.{Kind}
-use Rattle.union_array.specs.Types.{kind_number, width_of, low_bits}
+use Rattle.array_columns.specs.declared.Refusal.{Refusal}
+use Rattle.array_columns.specs.Types.{width_of, low_bits}
+use Rattle.array_columns.specs.Slots.{is_some}
 use Rattle.array_columns.specs.Buffers.{Buffers, amounts_of}
-use Rattle.array_columns.specs.Refusal.{◌then◌, if_yes}
+use Rattle.array_columns.specs.Refusal.{if_yes, number_of}
 use Rattle.array_columns.specs.Numbers.{kind_from, flag_from, bad_number, bad_length}
-use Rattle.array_columns.proofs.KindLaws.{numbered}
-use Rattle.union_names.specs.Names.{question17}
+use Rattle.array_columns.proofs.Tests.{refused_is}
+use Rattle.builder_columns.specs.Planning.{PlanAnswer}
 use Rattle.builder_columns.specs.Writing.{written_by}
-use Rattle.builder_appends.specs.Readings.{cut_size}
 use Rattle.builder_appends.specs.declared.Step.{Step}
 use Rattle.builder_appends.specs.declared.Reading.{Reading}
-use Rattle.builder_appends.specs.Steps.{accepted_step, refused_step, plan_for, Stepped, stepped, planned, append_by, reading_at, reading_by}
-use Rattle.builder_appends.proofs.Asking.{then_zero}
-use Rattle.builder_appends.proofs.Stepping.{append_known}
-use Rattle.builder_appends.proofs.Runs.{cut_short, cut_long}
-use Rattle.union_builder.specs.Builder.{BuilderHead, UnionBuilder, builder_head, column, open_checked, known}
-use Rattle.union_builder.specs.Append.{some_if, cut_to, append_checked, builder_after, buffers_after, AppendOutcome, outcome, appended, append_with}
-use Rattle.union_builder.proofs.Writing.{Plan}
+use Rattle.builder_appends.specs.Steps.{accepted_step, Steppable, plan_for, Stepped, step_taken, step_refused, stepped, planned, append_by, reading_at, reading_by}
+use Rattle.builder_appends.proofs.Planned.{plan_known}
+use Rattle.union_builder.specs.Builder.{UnionBuilder, builder_head, open_checked}
+use Rattle.union_builder.specs.Append.{some_if, append_checked, AppendOutcome, outcome, appended, append_with}
+use Rattle.union_builder.specs.Growing.{grown_by_step, after_step}
+use Rattle.union_builder.specs.Appends.{Readings, is_reading, reading_of, RunOutcome, run_outcome, appends_step, lengths_match, appends_of}
 use Rattle.union_builder.proofs.Planning.{grown_as, appended_of}
-use Rattle.union_builder.specs.Appends.{Readings, readings_of, is_reading, reading_of, RunOutcome, run_outcome, appends_step, lengths_match, appends_of}
 use Rattle.union_builder.proofs.Plans.{plan_is}
-use Rattle.union_builder.proofs.Growing.{taken, accepted_after, refused_after, after_full}
-use Rattle.union_builder.proofs.Appending.{open_parts, append_no, append_yes, append_value, append_none}
+use Rattle.union_builder.proofs.Growing.{accepted_after, after_full}
+use Rattle.union_builder.proofs.Appending.{open_parts, append_no, append_yes, append_cut}
 use Rattle.union_builder.proofs.Keeping.{append_open}
 
 -- ---- one reading
 
+-- the builder after a step, if there is one
+abbrev after_option : UnionBuilder → Option Step → UnionBuilder
+after_option b none = b
+after_option b (some s) = grown_by_step b s
+
 -- what a step answers, and lent memory after it
-abbrev lifted : UnionBuilder → Stepped → AppendOutcome
-lifted b s = outcome (appended (taken b s.step) s.step.refusal) s.buffers
+abbrev pub lifted : UnionBuilder → Stepped → AppendOutcome
+lifted b s = outcome (appended (after_option b s.step) s.refusal) s.buffers
+
+-- what the code answers
+pub lifted_told : (b : UnionBuilder) (r : Result Step Refusal) (m : Buffers) → outcome (appended (after_step b r) (number_of r)) m ≡ lifted b (stepped r m)
+lifted_told b (Ok s) m = refl
+lifted_told b (Err r) m = refl
 
 module _ (b : UnionBuilder) (m : Buffers) (full : length b.columns ≡ 128) (n : ℕ) (en : n ≡ open_checked b (amounts_of m)) where
-  module _ (name : List ℕ) (kind : Kind) (word : ℕ) (present : Bool) where
-    abbrev p : Plan
+  module _ (name : List ℕ) (kind : Kind) (v : Option ℕ) (word : ℕ) (present : Bool) (is : v ≡ some_if present word) (there : is_some v ≡ present) where
+    abbrev p : PlanAnswer
     p = plan_for n (builder_head b) b.columns m.names name kind
 
     abbrev yes_step : Stepped
-    yes_step = stepped (accepted_step (builder_head b) p present) (written_by (builder_head b) p m name (some_if present word))
+    yes_step = step_taken (accepted_step (builder_head b) p.plan (is_some v)) (written_by (builder_head b) p.plan m name v)
 
-    abbrev no_step : ℕ → Stepped
-    no_step k = stepped (refused_step (builder_head b) (column b 0) k present) m
-
-    by_number_lem : (k : ℕ) → p.refusal ≡ k → lifted b (if_yes p.refusal yes_step (no_step p.refusal)) ≡ appended_of b m name kind (some_if present word)
+    by_number_lem : (k : ℕ) → p.refusal ≡ k → lifted b (if_yes p.refusal yes_step (step_refused p.refusal m)) ≡ appended_of b m name kind v
     by_number_lem zero z =
-        let a = append_known n (builder_head b) b.columns m.names name kind p refl z (amounts_of m) (λ e. open_parts b (amounts_of m) (sym en ∙ e)) in
-        ap (λ (k : ℕ). lifted b (if_yes k yes_step (no_step k))) z
-        ∙ ap (λ (u : UnionBuilder). outcome (appended u 0) yes_step.buffers) (accepted_after b p present full a.few a.used)
-        ∙ sym (ap (λ (k : ℕ). outcome (appended (if_yes k (grown_as b p (some_if present 0)) b) k) yes_step.buffers) z)
-        ∙ append_yes b m name kind n en p (plan_is b name kind n m.names) z present word (builder_head b) refl yes_step.buffers refl
+        let a = plan_known n (builder_head b) b.columns (amounts_of m) m.names name kind p.plan (λ e. open_parts b (amounts_of m) (sym en ∙ e)) (ap (λ (k : ℕ). record { plan = p.plan; refusal = k }) (sym z)) in
+        ap (λ (k : ℕ). lifted b (if_yes k yes_step (step_refused k m))) z
+        ∙ ap (λ (t : Bool). outcome (appended (grown_by_step b (accepted_step (builder_head b) p.plan t)) 0) yes_step.buffers) there
+        ∙ ap (λ (u : UnionBuilder). outcome (appended u 0) yes_step.buffers) (accepted_after b p.plan present full a.few a.used)
+        ∙ sym (ap (λ (k : ℕ). outcome (appended (if_yes k (grown_as b p.plan (some_if present 0)) b) k) yes_step.buffers) z)
+        ∙ append_yes b m name kind n en p (plan_is b name kind n m.names) z present word (builder_head b) refl yes_step.buffers (ap (written_by (builder_head b) p.plan m name) is)
+        ∙ ap (appended_of b m name kind) (sym is)
     by_number_lem (suc k) z =
-        ap (λ (k : ℕ). lifted b (if_yes k yes_step (no_step k))) z
-        ∙ ap (λ (u : UnionBuilder). outcome (appended u (suc k)) m) (refused_after b (suc k) present full)
-        ∙ sym (ap (λ (k : ℕ). outcome (appended (if_yes k (grown_as b p (some_if present 0)) b) k) m) z)
-        ∙ append_no b m name kind n en p (plan_is b name kind n m.names) (some_if present 0) (some_if present word) (λ e. omega (arith, e, z))
+        ap (λ (k : ℕ). lifted b (if_yes k yes_step (step_refused k m))) z
+        ∙ sym (ap (λ (k : ℕ). outcome (appended (if_yes k (grown_as b p.plan v) b) k) m) z)
+        ∙ append_no b m name kind n en p (plan_is b name kind n m.names) v v (λ e. omega (arith, e, z))
 
-    -- an append by the builder's parts
-    lifted_append : lifted b (append_by n (builder_head b) b.columns name kind word present m) ≡ appended_of b m name kind (some_if present word)
+    lifted_by : lifted b (append_by n (builder_head b) b.columns name kind v m) ≡ appended_of b m name kind v
     unfolding append_by planned
-    lifted_append = by_number_lem p.refusal refl
+    lifted_by = by_number_lem p.refusal refl
+
+  -- an append by the builder's parts
+  pub lifted_append : (name : List ℕ) (kind : Kind) (v : Option ℕ) → lifted b (append_by n (builder_head b) b.columns name kind v m) ≡ appended_of b m name kind v
+  lifted_append name kind none = lifted_by name kind none 0 false refl refl
+  lifted_append name kind (some x) = lifted_by name kind (some x) x true refl refl
 
   -- a value is cut to its kind
   cut : (name : List ℕ) (kind : Kind) (bits : ℕ) (t : Bool)
       → appended_of b m name kind (some_if t (low_bits (width_of kind) bits)) ≡ append_with b m name kind (some_if t bits)
-  cut name kind bits true = append_value b m name kind bits _ refl
-  cut name kind bits false = append_none b m name kind
+  cut name kind bits true = append_cut b m name kind (some bits)
+  cut name kind bits false = append_cut b m name kind none
 
   lifted_reading : (text : List ℕ) (r : Reading)
       → lifted b (reading_by n (builder_head b) b.columns text r m) ≡ reading_of text r.start r.size r.kind r.present r.bits b m
@@ -82,10 +92,12 @@ module _ (b : UnionBuilder) (m : Buffers) (full : length b.columns ≡ 128) (n :
   lifted_reading text r = by (is_reading (length text) r.start r.size r.kind r.present)
     where
       by : (t : Bool)
-          → lifted b (cond t (append_by n (builder_head b) b.columns (take r.size (drop r.start text)) (kind_from r.kind) (low_bits (width_of (kind_from r.kind)) r.bits) (flag_from r.present) m) (stepped (refused_step (builder_head b) (column b 0) bad_number (flag_from r.present)) m))
+          → lifted b (cond t (append_by n (builder_head b) b.columns (take r.size (drop r.start text)) (kind_from r.kind) (some_if (flag_from r.present) (low_bits (width_of (kind_from r.kind)) r.bits)) m) (step_refused bad_number m))
           ≡ cond t (append_with b m (take r.size (drop r.start text)) (kind_from r.kind) (some_if (flag_from r.present) r.bits)) (outcome (appended b bad_number) m)
-      by true = lifted_append (take r.size (drop r.start text)) (kind_from r.kind) (low_bits (width_of (kind_from r.kind)) r.bits) (flag_from r.present) ∙ cut (take r.size (drop r.start text)) (kind_from r.kind) r.bits (flag_from r.present)
-      by false = ap (λ (u : UnionBuilder). outcome (appended u bad_number) m) (refused_after b bad_number (flag_from r.present) full)
+      by true =
+          lifted_append (take r.size (drop r.start text)) (kind_from r.kind) (some_if (flag_from r.present) (low_bits (width_of (kind_from r.kind)) r.bits))
+          ∙ cut (take r.size (drop r.start text)) (kind_from r.kind) r.bits (flag_from r.present)
+      by false = refl
 
 -- the builder is open after a reading as before it
 reading_open : (text : List ℕ) (start size kind present bits : ℕ) (b : UnionBuilder) (m : Buffers)
@@ -101,10 +113,6 @@ reading_open text start size kind present bits b m = by (is_reading (length text
 
 -- ---- a run
 
-pub amounts_kept : (m m' : Buffers) → length m'.ids ≡ length m.ids → length m'.offsets ≡ length m.offsets → length m'.values ≡ length m.values
-    → length m'.masks ≡ length m.masks → length m'.names ≡ length m.names → amounts_of m' ≡ amounts_of m
-amounts_kept m m' hi ho hv hm hn = cc
-
 -- what holds of a run before reading k: the readings before it are appended, and the builder is as open as at first
 pub record Run (r : Readings) (n k : ℕ) (s : RunOutcome) (b : UnionBuilder) (m : Buffers) (refusals : List ℕ) : Type 0 where
   pub done : run_outcome (record { builder = b; refusal = 0 }) m refusals ≡ times k (appends_step r) s
@@ -113,11 +121,10 @@ pub record Run (r : Readings) (n k : ℕ) (s : RunOutcome) (b : UnionBuilder) (m
 
 -- one reading more
 pub run_more : (r : Readings) (n k : ℕ) (s : RunOutcome) (b : UnionBuilder) (m : Buffers) (refusals : List ℕ) → Run r n k s b m refusals
-    → (h : BuilderHead) → h ≡ builder_head b → (x : Reading) → x ≡ reading_at r k
-    → (o : Step) (m' : Buffers) → stepped o m' ≡ reading_by n h b.columns r.text x m → o.rows ≤ 128 → amounts_of m' ≡ amounts_of m
-    → (w : UnionBuilder) → w ≡ taken b o → Run r n (k + 1) s w m' (set refusals k o.refusal)
+    → (o : Result Step Refusal) (m' : Buffers) → stepped o m' ≡ reading_by n (builder_head b) b.columns r.text (reading_at r k) m → IfOk o (Steppable b.columns)
+    → amounts_of m' ≡ amounts_of m → Run r n (k + 1) s (after_step b o) m' (set refusals k (number_of o))
 unfolding appends_step
-run_more r n k s b m refusals run h eh x ex o m' e few a w g =
+run_more r n k s b m refusals run o m' e takes kept =
     record {
       done =
           ap (λ (x : AppendOutcome). run_outcome (record { builder = x.answer.builder; refusal = 0 }) x.buffers (set refusals k x.answer.refusal)) reads
@@ -126,16 +133,17 @@ run_more r n k s b m refusals run h eh x ex o m' e few a w g =
       asked =
           run.asked
           ∙ sym (reading_open r.text (get_or r.starts k 0) (get_or r.sizes k 0) (get_or r.kinds k 0) (get_or r.present k 0) (get_or r.bits k 0) b m)
-          ∙ ap₂ open_checked (sym (ap (λ (x : AppendOutcome). x.answer.builder) reads)) (sym a);
-      full = ap (λ (u : UnionBuilder). length u.columns) g ∙ after_full b o run.full few;
+          ∙ ap₂ open_checked (sym (ap (λ (x : AppendOutcome). x.answer.builder) reads)) (sym kept);
+      full = full_after o takes;
     }
   where
-    reads : outcome (appended w o.refusal) m'
+    reads : outcome (appended (after_step b o) (number_of o)) m'
         ≡ reading_of r.text (get_or r.starts k 0) (get_or r.sizes k 0) (get_or r.kinds k 0) (get_or r.present k 0) (get_or r.bits k 0) b m
-    reads =
-        ap (λ (u : UnionBuilder). outcome (appended u o.refusal) m') g
-        ∙ ap (lifted b) (e ∙ ap₂ (λ (y : BuilderHead) (z : Reading). reading_by n y b.columns r.text z m) eh ex)
-        ∙ lifted_reading b m run.full n run.asked r.text (reading_at r k)
+    reads = lifted_told b o m' ∙ ap (lifted b) e ∙ lifted_reading b m run.full n run.asked r.text (reading_at r k)
+
+    full_after : (o : Result Step Refusal) → IfOk o (Steppable b.columns) → length (after_step b o).columns ≡ 128
+    full_after (Ok x) h = after_full b x run.full h.few
+    full_after (Err x) h = run.full
 
 -- ---- the answer of a run
 
@@ -149,76 +157,8 @@ module _ (b : UnionBuilder) (m : Buffers) (r : Readings) (refusals : List ℕ) w
   unfolding appends_of
   appends_yes h o e = rw h e
 
--- ---- a run of one reading
-
-take_all : (l : List ℕ) → take (length l) l ≡ l
-take_all [] = refl
-take_all (x ∷ xs) = ap (λ (t : List ℕ). x ∷ t) (take_all xs)
-
-module _ (b : UnionBuilder) (m : Buffers) (name : List ℕ) (kind : Kind) (bits present : ℕ) where
-  refused_append : (v : Option ℕ) (n : ℕ) → n ≡ append_checked b m name kind → (n ≡ 0 → ⊥) → outcome (record { builder = b; refusal = n }) m ≡ append_with b m name kind v
-  unfolding append_with
-  refused_append v n e h =
-      ap (λ (k : ℕ). outcome (record { builder = b; refusal = k }) m) e
-      ∙ at (builder_after b (known b m name) name kind (cut_to kind v)) (buffers_after b m (known b m name) name (cut_to kind v)) (append_checked b m name kind) (λ z. h (e ∙ z))
-    where
-      at : (x : UnionBuilder) (y : Buffers) (k : ℕ) → (k ≡ 0 → ⊥)
-          → outcome (record { builder = b; refusal = k }) m ≡ outcome (record { builder = if_yes k x b; refusal = k }) (if_yes k y m)
-      at x y zero h = absurd (h refl)
-      at x y (suc k) h = refl
-
-  long_number : 32 < length name → (open_checked b (amounts_of m) then 17) ≡ append_checked b m name kind
-  unfolding append_checked question17
-  long_number h = rw (lt-leb (length name) 32 h)
-
-  -- a name of more than 32 bytes
-  pub append_long : (n : ℕ) → n ≡ (open_checked b (amounts_of m) then 17) → 32 < length name
-      → outcome (record { builder = b; refusal = n }) m ≡ append_with b m name kind (some_if (flag_from present) bits)
-  append_long n e h =
-      refused_append (some_if (flag_from present) bits) n (e ∙ long_number h)
-      (λ z. let q : ◌≡◌ {A = ℕ} 17 0 = (then_zero (open_checked b (amounts_of m)) 17 (sym e ∙ z)).1 in omega arith)
-
-  abbrev pub one_reading : ℕ → ℕ → Readings
-  one_reading size number = readings_of name (0 ∷ []) (size ∷ []) (number ∷ []) (present ∷ []) (bits ∷ [])
-
-  pub one_matches : (size number : ℕ) → lengths_match (one_reading size number) 1 ≡ true
-  unfolding lengths_match
-  one_matches size number = refl
-
-  -- a reading of at most 33 bytes of the name
-  one_of : (size number : ℕ) → size ≤ length name → number ≡ kind_number kind → present < 2
-      → reading_of name 0 size number present bits b m ≡ append_with b m (take size name) kind (some_if (flag_from present) bits)
-  unfolding reading_of is_reading
-  one_of size number l e h =
-      rw (e, le-leb (0 + size) (length name) (omega arith), lt-ltb (kind_number kind) 10 (numbered kind).low, lt-ltb present 2 h, (numbered kind).back)
-
-one_is : (b : UnionBuilder) (m : Buffers) (name : List ℕ) (kind : Kind) (bits present size number : ℕ) → size ≡ cut_size (length name) → number ≡ kind_number kind → present < 2
-    → reading_of name 0 size number present bits b m ≡ append_with b m name kind (some_if (flag_from present) bits)
-one_is b m name kind bits present size number es e h =
-    three (length name) 33 {P = reading_of name 0 size number present bits b m ≡ append_with b m name kind (some_if (flag_from present) bits)}
-    (λ l. short (es ∙ sym (cut_short (length name) l)))
-    (λ q. long (es ∙ sym (cut_long (length name) (omega arith))) (omega arith))
-    (λ l. long (es ∙ sym (cut_long (length name) (omega arith))) (omega arith))
-  where
-    short : size ≡ length name → reading_of name 0 size number present bits b m ≡ append_with b m name kind (some_if (flag_from present) bits)
-    short q =
-        one_of b m name kind bits present size number (omega (arith, q)) e h
-        ∙ ap (λ (l : List ℕ). append_with b m l kind (some_if (flag_from present) bits)) (ap (λ (i : ℕ). take i name) q ∙ take_all name)
-
-    -- both names are refused by 17
-    long : size ≡ 33 → 33 ≤ length name → reading_of name 0 size number present bits b m ≡ append_with b m name kind (some_if (flag_from present) bits)
-    long q l =
-        let c = length-take-le size name (omega (arith, q)) in
-        one_of b m name kind bits present size number (omega (arith, q)) e h
-        ∙ sym (append_long b m (take size name) kind bits present _ refl (omega (arith, c, q)))
-        ∙ append_long b m name kind bits present _ refl (omega arith)
-
-pub one_appends : (b : UnionBuilder) (m : Buffers) (name : List ℕ) (kind : Kind) (bits present size number : ℕ)
-    → size ≡ cut_size (length name) → number ≡ kind_number kind → present < 2 → (w : UnionBuilder) (m' : Buffers) (refusals : List ℕ)
-    → run_outcome (record { builder = w; refusal = 0 }) m' refusals
-    ≡ times 1 (appends_step (one_reading b m name kind bits present size number)) (run_outcome (record { builder = b; refusal = 0 }) m (0 ∷ []))
-    → outcome (record { builder = w; refusal = get_or refusals 0 0 }) m' ≡ append_with b m name kind (some_if (flag_from present) bits)
-unfolding appends_step
-one_appends b m name kind bits present size number es e h w m' refusals q =
-    ap (λ (s : RunOutcome). outcome (record { builder = s.answer.builder; refusal = get_or s.refusals 0 0 }) s.buffers) q
-    ∙ one_is b m name kind bits present size number es e h
+-- a refused append, by its number: the builder and lent memory as they were
+pub refused_append : (b : UnionBuilder) (m : Buffers) (name : List ℕ) (kind : Kind) (v : Option ℕ) (n : ℕ) → n ≡ append_checked b m name kind → (n ≡ 0 → ⊥)
+    → outcome (record { builder = b; refusal = n }) m ≡ append_with b m name kind v
+unfolding append_with
+refused_append b m name kind v n e h = rw (← e, refused_is n _ b h, refused_is n _ m h)

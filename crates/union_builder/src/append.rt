@@ -1,54 +1,30 @@
 // One append, of a value or of a null.
-ghost use Rattle.std.specs.Prelude.{◌≡◌, ◌<◌};
-ghost use Rattle.array_columns.specs.Buffers.{buffers_of};
-ghost use Rattle.array_columns.specs.Numbers.{flag_from};
-ghost use Rattle.union_builder.specs.Append.{some_if, outcome, append_with};
+ghost use Rattle.std.specs.Prelude.{◌≡◌};
+ghost use Rattle.array_columns.specs.Buffers.{held, Same};
+ghost use Rattle.builder_columns.specs.Columns.{given};
+ghost use Rattle.union_builder.specs.Append.{appended_told, outcome, append_with};
 
-use crate::appends::append_each;
 use crate::{Appended, UnionBuilder};
-use array_columns::Kind;
-use array_columns::kinds::kind_number;
-use builder_appends::readings::cut_size;
+use array_columns::{BuffersMut, Kind};
+use builder_appends::steps::append_step;
 
-// Appends a value, or a null where `present` is 0: a run of one reading. Of a longer name it takes 33 bytes, which 17 refuses too.
-pub(crate) fn append_one(
-    b: UnionBuilder,
-    name: &[u8],
-    kind: Kind,
-    bits: u64,
-    present: u8,
-    type_ids: &mut [i8],
-    offsets: &mut [i32],
-    values: &mut [u64],
-    masks: &mut [u64],
-    names: &mut [u8],
-) -> Appended
-    requires { present < 2 }
-    ensures { outcome result (buffers_of type_ids.new offsets.new values.new masks.new names.new)
-        ≡ append_with b (buffers_of type_ids.old offsets.old values.old masks.old names.old) name.now kind (some_if (flag_from present) bits) }
-{
-    let sizes = [cut_size(name.len()); 1];
-    let kinds = [kind_number(kind); 1];
-    let flags = [present; 1];
-    let words = [bits; 1];
-    let mut refusals = [0u8; 1];
-    let after = append_each(
-        b,
-        name,
-        &[0u32; 1],
-        &sizes,
-        &kinds,
-        &flags,
-        &words,
-        type_ids,
-        offsets,
-        values,
-        masks,
-        names,
-        &mut refusals,
-    );
-    Appended {
-        builder: after,
-        refusal: refusals[0],
+impl UnionBuilder {
+    // Appends a value, or a null: the arguments of the two appends.
+    pub(crate) fn append_one(
+        self,
+        name: &[u8],
+        kind: Kind,
+        value: Option<u64>,
+        lent: &mut BuffersMut,
+    ) -> Appended
+        ensures same { Same lent.new lent.old }
+        ensures after { outcome (appended_told result) (held lent.new) ≡ append_with self (held lent.old) name.now kind (given value) }
+    {
+        let checked = self.check_open(&lent.amounts());
+        let cut = value.map(|bits| kind.low_bits(bits));
+        let step = append_step(self.head(), &self.columns, checked, name, kind, cut, lent);
+        let mut builder = self;
+        let answer = builder.take(step);
+        Appended { builder, answer }
     }
 }

@@ -1,20 +1,16 @@
 -- Arrays and their answers as C structs.
-use Rattle.std.specs.Prelude.{Bool, ◌&&◌, take, replicate}
+use Rattle.std.specs.Prelude.{Bool, ◌&&◌, take, replicate, Result}
 use Rattle.bitmap.specs.Bits.{digit}
 use Rattle.array_columns.specs.declared.Column.{Column}
+use Rattle.array_columns.specs.declared.Refusal.{Refusal}
 use Rattle.union_array.specs.declared.UnionArray.{UnionArray}
-use Rattle.array_columns.specs.declared.Value.{Value}
-use Rattle.union_array.specs.declared.TypeId.{TypeId}
-use Rattle.union_array.specs.declared.ValueOffset.{ValueOffset}
-use Rattle.union_array.specs.declared.Child.{Child}
+use Rattle.array_columns.specs.Lookup.{Value}
 use Rattle.union_array.specs.declared.NamePlace.{NamePlace}
-use Rattle.union_array.specs.declared.TypeNames.{TypeNames}
-use Rattle.union_array.specs.declared.Flag.{Flag}
-use Rattle.union_array.specs.declared.Slice.{Slice}
 use Rattle.union_array.specs.Types.{kind_number, no_column}
-use Rattle.union_array.specs.Lookup.{no_name}
+use Rattle.union_array.specs.Lookup.{TypeId, ValueOffset, Child, TypeNames, Flag, no_name}
+use Rattle.union_array.specs.Slices.{Slice}
 use Rattle.array_columns.specs.Numbers.{kind_from, layout_from, layout_number, is_layout, flag_from}
-use Rattle.union_c.specs.Numbers.{is_case, each, first_by}
+use Rattle.union_c.specs.Numbers.{is_case, named, each, first_by}
 pub use Rattle.union_c.specs.declared.CColumn.{CColumn}
 pub use Rattle.union_c.specs.declared.CArray.{CArray}
 pub use Rattle.union_c.specs.declared.CValue.{CValue}
@@ -40,7 +36,11 @@ column_from c = record {
   masked = flag_from c.masked;
 }
 
--- entries past the columns in use are not read
+-- a column whose numbers name cases
+abbrev pub is_column : CColumn → Bool
+is_column c = is_case c.kind c.masked
+
+-- entries past the columns in use are not read; a number that names no case is read as the first
 unfoldable pub array_from : CArray → UnionArray
 array_from a = record {
   columns = first_by a.fields column_from a.columns (replicate 128 no_column);
@@ -55,7 +55,11 @@ array_from a = record {
 
 -- every number of the columns in use names a case; entries past the fields may hold anything
 unfoldable pub is_array : CArray → Bool
-is_array a = is_layout a.layout && each (λ c. is_case c.kind c.masked) (take a.fields a.columns)
+is_array a = is_layout a.layout && each is_column (take a.fields a.columns)
+
+-- that array, or the refusal
+abbrev pub array_named : CArray → Result UnionArray Refusal
+array_named a = named is_array array_from a
 
 -- ---- writing
 abbrev pub column_to : Column → CColumn

@@ -1,17 +1,18 @@
 -- Builders and their answers as C structs.
-use Rattle.std.specs.Prelude.{Bool, ◌&&◌, ℕ, take, replicate}
+use Rattle.std.specs.Prelude.{Bool, ◌&&◌, ℕ, take, replicate, Result}
 use Rattle.bitmap.specs.Bits.{digit}
 use Rattle.union_array.specs.Types.{kind_number, no_array}
+use Rattle.array_columns.specs.declared.Refusal.{Refusal}
 use Rattle.array_columns.specs.Refusal.{if_yes}
 use Rattle.array_columns.specs.Numbers.{kind_from, layout_from, layout_number, is_layout, flag_from, bad_number}
 use Rattle.builder_columns.specs.declared.BuilderColumn.{BuilderColumn}
 use Rattle.union_builder.specs.declared.UnionBuilder.{UnionBuilder}
-use Rattle.union_builder.specs.declared.Made.{Made}
-use Rattle.union_builder.specs.declared.Appended.{Appended}
 use Rattle.union_builder.specs.declared.Length.{Length}
-use Rattle.union_builder.specs.declared.Finished.{Finished}
-use Rattle.union_builder.specs.Builder.{no_builder_column}
-use Rattle.union_c.specs.Numbers.{is_case, each, first_by}
+use Rattle.union_builder.specs.Builder.{Made, no_builder_column}
+use Rattle.union_builder.specs.Append.{Appended}
+use Rattle.union_builder.specs.Finish.{Finished}
+use Rattle.union_array.specs.Slices.{Slice}
+use Rattle.union_c.specs.Numbers.{is_case, named, each, first_by}
 use Rattle.union_c.specs.Arrays.{array_to}
 pub use Rattle.union_c.specs.declared.CBuilderColumn.{CBuilderColumn}
 pub use Rattle.union_c.specs.declared.CBuilder.{CBuilder}
@@ -23,7 +24,11 @@ pub use Rattle.union_c.specs.declared.CFinished.{CFinished}
 abbrev pub builder_column_from : CBuilderColumn → BuilderColumn
 builder_column_from c = record { slots = c.slots; size = c.size; kind = kind_from c.kind; masked = flag_from c.masked }
 
--- entries past the columns in use are not read
+-- a column whose numbers name cases
+abbrev pub is_builder_column : CBuilderColumn → Bool
+is_builder_column c = is_case c.kind c.masked
+
+-- entries past the columns in use are not read; a number that names no case is read as the first
 unfoldable pub builder_from : CBuilder → UnionBuilder
 builder_from b = record {
   columns = first_by b.count builder_column_from b.columns (replicate 128 no_builder_column);
@@ -36,7 +41,11 @@ builder_from b = record {
 
 -- every number of the columns in use names a case; later entries may hold anything
 unfoldable pub is_builder : CBuilder → Bool
-is_builder b = is_layout b.layout && each (λ c. is_case c.kind c.masked) (take b.count b.columns)
+is_builder b = is_layout b.layout && each is_builder_column (take b.count b.columns)
+
+-- that builder, or the refusal
+abbrev pub builder_named : CBuilder → Result UnionBuilder Refusal
+builder_named b = named is_builder builder_from b
 
 -- ---- writing
 abbrev pub builder_column_to : BuilderColumn → CBuilderColumn
@@ -76,6 +85,10 @@ length_to c l = record { builder = c; len = l.len }
 
 abbrev pub cloned_to : CBuilder → Finished → CFinished
 cloned_to c f = record { builder = c; array = array_to f.array; refusal = f.refusal }
+
+-- a finish's that leaves the builder as it came
+abbrev pub kept_with : CBuilder → Slice → CFinished
+kept_with c s = record { builder = c; array = array_to s.array; refusal = s.refusal }
 
 -- an empty builder, or, refused, the builder as it came
 abbrev pub finished_to : CBuilder → Finished → CFinished

@@ -1,17 +1,18 @@
-// Numbers and C structs, read as the crates below have them, and written back. `c` is the struct that the caller has.
-ghost use Rattle.std.specs.Prelude.{◌≡◌};
-ghost use Rattle.array_columns.specs.Numbers.{layout_from, layout_number};
-ghost use Rattle.union_c.specs.Numbers.{is_case, entries_used};
-ghost use Rattle.union_c.specs.Arrays.{column_from, array_from, is_array, column_to, array_to, value_to, flag_to, type_names_to};
-ghost use Rattle.union_c.specs.Nulls.{strategy_from, is_strategy};
-ghost use Rattle.union_c.specs.Builders.{builder_column_from, builder_from, is_builder, builder_column_to, builder_to, builder_into};
+// Numbers and C structs, read as the crates below have them, and written back. C's numbers are this crate's: a test tells whether one
+// names a case, and what reads it can't fail, since a caller may have asked before.
+ghost use Rattle.std.specs.Prelude.{◌≡◌, ◌≤◌, length};
+ghost use Rattle.std.specs.List.{list_all};
+ghost use Rattle.array_columns.specs.Numbers.{layout_from};
+ghost use Rattle.union_c.specs.Numbers.{is_case, entries_used, first_by};
+ghost use Rattle.union_c.specs.Arrays.{column_from, is_column, array_from, is_array, array_named, column_to, array_to, name_to};
+ghost use Rattle.union_c.specs.Nulls.{strategy_from, strategy_named};
+ghost use Rattle.union_c.specs.Builders.{builder_column_from, is_builder_column, builder_from, is_builder, builder_named, builder_column_to, builder_to, builder_into, no_c_builder};
 
-use crate::{CArray, CBuilder, CBuilderColumn, CColumn, CFlag, CNamePlace, CTypeNames, CValue};
-use array_columns::kinds::{flag_number, kind_from, kind_number};
-use array_columns::{Column, Kind, Layout, Value};
+use crate::{CArray, CBuilder, CBuilderColumn, CColumn, CNamePlace};
+use array_columns::{Column, Kind, Layout, Refusal};
 use builder_columns::BuilderColumn;
 use logical_nulls::SparseStrategy;
-use union_array::{Flag, TypeNames, UnionArray};
+use union_array::{NamePlace, UnionArray};
 use union_builder::UnionBuilder;
 
 // The layout with a number; any other number is read as sparse.
@@ -19,22 +20,21 @@ fn layout_from(n: u8) -> Layout
     ensures { result ≡ layout_from n }
 {
     if n == 1 {
-        return Layout::Dense;
+        Layout::Dense
+    } else {
+        Layout::Sparse
     }
-    Layout::Sparse
 }
 
-// A layout's number.
-fn layout_to(layout: Layout) -> u8
-    ensures { result ≡ layout_number layout }
+// Whether the numbers of a column's kind and mask name cases.
+#[tactic(auto, unfolding(crate::specs::Numbers::is_case))]
+fn is_case(kind: u8, masked: u8) -> bool
+    ensures { result ≡ is_case kind masked }
 {
-    match layout {
-        Layout::Sparse => 0,
-        Layout::Dense => 1,
-    }
+    kind < 10 && masked < 2
 }
 
-// The strategy with a route's number; any other number is read as Gather.
+// The strategy with a route's number; any other number is read as Gather's.
 pub fn strategy_from(n: u8) -> SparseStrategy
     ensures { result ≡ strategy_from n }
 {
@@ -46,289 +46,279 @@ pub fn strategy_from(n: u8) -> SparseStrategy
     }
 }
 
-// Whether a number is the route of a named strategy.
-pub fn is_strategy(n: u8) -> bool
-    ensures { result ≡ is_strategy n }
+// The strategy with a route's number, if there is one.
+pub fn strategy_named(n: u8) -> Result<SparseStrategy, Refusal>
+    ensures { result ≡ strategy_named n }
 {
-    if n < 3 {
-        return false;
+    match n {
+        3..=6 => Ok(strategy_from(n)),
+        _ => Err(Refusal::UnknownNumber),
     }
-    n < 7
-}
-
-// Whether a column's numbers name a kind and a flag.
-#[tactic(auto, using(crate::proofs::Numbers::case_flag, crate::proofs::Numbers::case_kind))]
-fn is_case(kind: u8, masked: u8) -> bool
-    ensures { result ≡ is_case kind masked }
-{
-    if kind < 10 {
-        return masked < 2;
-    }
-    false
 }
 
 // How many of 128 entries are in use.
-fn in_use(n: usize) -> usize
-    ensures { result ≡ entries_used n }
+pub(crate) fn in_use(n: usize) -> usize
+    ensures within { result ≤ 128 }
+    ensures value { result ≡ entries_used n }
 {
-    if n < 128 {
-        return n;
-    }
-    128
+    n.min(128)
 }
 
-fn column_from(c: CColumn) -> Column
-    ensures { result ≡ column_from c }
+// Entries, each turned into another type, with those of `rest` after them. `to` says into what. The arrays are fields of structs;
+// other crates fill theirs in three lines of their own.
+pub(crate) fn turned<T: Copy, C: Copy + From<T>>(entries: &[T], rest: [C; 128]) -> [C; 128]
+    ghost to: { T → C }
+    requires few { length entries.now ≤ 128 }
+    requires turns { (x : T) (c : C) → C.from_gives x c → c ≡ to x }
+    ensures { result ≡ first_by (length entries.now) to entries.now rest }
 {
-    Column {
-        values: c.values,
-        mask: c.mask,
-        name: c.name,
-        slots: c.slots,
-        bit: c.bit,
-        size: c.size,
-        id: c.id,
-        kind: kind_from(c.kind),
-        masked: c.masked == 1,
+    let mut out = rest;
+    for (k, x) in entries.iter().enumerate() {
+        out[k] = C::from(*x);
     }
+    out
 }
 
-pub fn column_to(column: Column) -> CColumn
-    ensures { result ≡ column_to column }
-{
-    let kind = column.kind;
-    CColumn {
-        values: column.values,
-        mask: column.mask,
-        name: column.name,
-        slots: column.slots,
-        bit: column.bit,
-        size: column.size,
-        id: column.id,
-        kind: kind_number(kind),
-        masked: flag_number(column.masked),
+impl CColumn {
+    // Whether its numbers name cases.
+    fn is_column(&self) -> bool
+        ensures { result ≡ is_column self.now }
+    {
+        is_case(self.kind, self.masked)
+    }
+
+    // Whether the numbers of each name cases. In `is_array` itself the `all` was not proved.
+    fn are_columns(columns: &[CColumn]) -> bool
+        ensures { result ≡ list_all is_column columns.now }
+    {
+        columns.iter().all(|c| c.is_column())
     }
 }
 
-// Whether each number of an array's columns in use names a case, and its layout does.
-pub fn is_array(c: CArray) -> bool
-    ensures { result ≡ is_array c }
-{
-    if 1 < c.layout {
-        return false;
-    }
-    let mut k: usize = 0;
-    while k < 128 {
-        if c.fields <= k {
-            return true;
+impl From<CColumn> for Column {
+    ghost from_gives = { λ c column. column ≡ column_from c };
+
+    fn from(c: CColumn) -> Column {
+        Column {
+            values: c.values,
+            mask: c.mask,
+            name: c.name,
+            slots: c.slots,
+            bit: c.bit,
+            size: c.size,
+            id: c.id,
+            kind: Kind::from_number(c.kind),
+            masked: c.masked == 1,
         }
-        let e = c.columns[k];
-        if !is_case(e.kind, e.masked) {
-            return false;
+    }
+}
+
+impl From<Column> for CColumn {
+    ghost from_gives = { λ column c. c ≡ column_to column };
+
+    fn from(column: Column) -> CColumn {
+        CColumn {
+            values: column.values,
+            mask: column.mask,
+            name: column.name,
+            slots: column.slots,
+            bit: column.bit,
+            size: column.size,
+            id: column.id,
+            kind: column.kind.number(),
+            masked: column.masked as u8,
         }
-        k += 1;
-    }
-    true
-}
-
-// An array as a caller describes it. Only the columns in use are read.
-pub fn array_from(c: CArray) -> UnionArray
-    ensures { result ≡ array_from c }
-{
-    let zeros = array_columns::questions::no_column();
-    let mut columns = [zeros; 128];
-    let n = in_use(c.fields);
-    for k in 0..n {
-        let e = c.columns[k];
-        columns[k] = column_from(e);
-    }
-    UnionArray {
-        columns: columns,
-        fields: c.fields,
-        children: c.children,
-        start: c.start,
-        count: c.count,
-        offsets_start: c.offsets_start,
-        offsets_count: c.offsets_count,
-        layout: layout_from(c.layout),
     }
 }
 
-// An array as it is described to a caller.
-pub fn array_to(a: UnionArray) -> CArray
-    ensures { result ≡ array_to a }
-{
-    let zeros = column_to(array_columns::questions::no_column());
-    let mut columns = [zeros; 128];
-    let n = in_use(a.fields);
-    for k in 0..n {
-        let e = a.columns[k];
-        columns[k] = column_to(e);
-    }
-    let layout = a.layout;
-    CArray {
-        columns: columns,
-        fields: a.fields,
-        children: a.children,
-        start: a.start,
-        count: a.count,
-        offsets_start: a.offsets_start,
-        offsets_count: a.offsets_count,
-        layout: layout_to(layout),
-    }
-}
+impl From<NamePlace> for CNamePlace {
+    ghost from_gives = { λ name c. c ≡ name_to name };
 
-pub fn value_to(v: Value) -> CValue
-    ensures { result ≡ value_to v }
-{
-    let kind = v.kind;
-    let name = v.name;
-    CValue {
-        bits: v.bits,
-        name: name,
-        size: v.size,
-        refusal: v.refusal,
-        id: v.id,
-        kind: kind_number(kind),
-        missing: flag_number(v.missing),
-    }
-}
-
-pub fn flag_answer_to(f: Flag) -> CFlag
-    ensures { result ≡ flag_to f }
-{
-    CFlag {
-        refusal: f.refusal,
-        holds: flag_number(f.holds),
-    }
-}
-
-pub fn type_names_to(t: TypeNames) -> CTypeNames
-    ensures { result ≡ type_names_to t }
-{
-    let mut names = [CNamePlace { start: 0, size: 0 }; 128];
-    let count = in_use(t.count);
-    for k in 0..count {
-        let n = t.names[k];
-        names[k] = CNamePlace {
-            start: n.start,
-            size: n.size,
-        };
-    }
-    CTypeNames {
-        names: names,
-        count: t.count,
-        refusal: t.refusal,
-    }
-}
-
-fn builder_column_from(c: CBuilderColumn) -> BuilderColumn
-    ensures { result ≡ builder_column_from c }
-{
-    BuilderColumn {
-        slots: c.slots,
-        size: c.size,
-        kind: kind_from(c.kind),
-        masked: c.masked == 1,
-    }
-}
-
-fn builder_column_to(column: BuilderColumn) -> CBuilderColumn
-    ensures { result ≡ builder_column_to column }
-{
-    let kind = column.kind;
-    CBuilderColumn {
-        slots: column.slots,
-        size: column.size,
-        kind: kind_number(kind),
-        masked: flag_number(column.masked),
-    }
-}
-
-// Whether each number of a builder's columns in use names a case, and its layout does.
-pub fn is_builder(c: CBuilder) -> bool
-    ensures { result ≡ is_builder c }
-{
-    if 1 < c.layout {
-        return false;
-    }
-    let mut k: usize = 0;
-    while k < 128 {
-        if c.count <= k {
-            return true;
+    fn from(name: NamePlace) -> CNamePlace {
+        CNamePlace {
+            start: name.start,
+            size: name.size,
         }
-        let e = c.columns[k];
-        if !is_case(e.kind, e.masked) {
-            return false;
+    }
+}
+
+impl CArray {
+    // Whether each number of its columns in use names a case, and its layout does. Later columns are not read.
+    #[tactic(auto, using(crate::proofs::Maps::all_used), unfolding(crate::specs::Arrays::is_array))]
+    pub fn is_array(&self) -> bool
+        ensures { result ≡ is_array self.now }
+    {
+        let n = in_use(self.fields);
+        self.layout < 2 && CColumn::are_columns(&self.columns[..n])
+    }
+
+    // The array that a caller describes; a number that names no case is read as the first.
+    #[tactic(auto, using(crate::proofs::Maps::written_is), unfolding(crate::specs::Arrays::array_from))]
+    pub fn array(&self) -> UnionArray
+        ensures { result ≡ array_from self.now }
+    {
+        let n = in_use(self.fields);
+        UnionArray {
+            columns: turned(&self.columns[..n], [Column::zeros(); 128]),
+            fields: self.fields,
+            children: self.children,
+            start: self.start,
+            count: self.count,
+            offsets_start: self.offsets_start,
+            offsets_count: self.offsets_count,
+            layout: layout_from(self.layout),
         }
-        k += 1;
     }
-    true
-}
 
-// A builder as a caller keeps it. Only the columns in use are read.
-pub fn builder_from(c: CBuilder) -> UnionBuilder
-    ensures { result ≡ builder_from c }
-{
-    let zeros = BuilderColumn {
-        slots: 0,
-        size: 0,
-        kind: Kind::Int8,
-        masked: false,
-    };
-    let mut columns = [zeros; 128];
-    let n = in_use(c.count);
-    for k in 0..n {
-        let e = c.columns[k];
-        columns[k] = builder_column_from(e);
-    }
-    UnionBuilder {
-        columns: columns,
-        capacity: c.capacity,
-        limit: c.limit,
-        len: c.len,
-        count: c.count,
-        layout: layout_from(c.layout),
+    // The array that a caller describes, if its numbers name cases. A builder's is like it: a trait for both would be longer.
+    pub fn read(&self) -> Result<UnionArray, Refusal>
+        ensures { result ≡ array_named self.now }
+    {
+        if !self.is_array() {
+            return Err(Refusal::UnknownNumber);
+        }
+        Ok(self.array())
     }
 }
 
-// A builder as it is handed to a caller who keeps `c`: entries past the columns in use stay as they are.
-pub fn builder_into(c: CBuilder, b: UnionBuilder) -> CBuilder
-    ensures { result ≡ builder_into c b }
-{
-    let mut columns = c.columns;
-    let n = in_use(b.count);
-    for k in 0..n {
-        let e = b.columns[k];
-        columns[k] = builder_column_to(e);
-    }
-    let layout = b.layout;
-    CBuilder {
-        columns: columns,
-        capacity: b.capacity,
-        limit: b.limit,
-        len: b.len,
-        count: b.count,
-        layout: layout_to(layout),
+impl From<UnionArray> for CArray {
+    ghost from_gives = { λ a c. c ≡ array_to a };
+
+    #[tactic(auto, using(crate::proofs::Maps::written_is), unfolding(crate::specs::Arrays::array_to))]
+    fn from(a: UnionArray) -> CArray {
+        let n = in_use(a.fields);
+        let zeros = CColumn::from(Column::zeros());
+        CArray {
+            columns: turned(&a.columns[..n], [zeros; 128]),
+            fields: a.fields,
+            children: a.children,
+            start: a.start,
+            count: a.count,
+            offsets_start: a.offsets_start,
+            offsets_count: a.offsets_count,
+            layout: a.layout as u8,
+        }
     }
 }
 
-// A builder as it is handed to a caller who kept none.
-pub(crate) fn builder_to(b: UnionBuilder) -> CBuilder
-    ensures { result ≡ builder_to b }
-{
-    let zeros = CBuilder {
-        columns: [CBuilderColumn {
-            slots: 0,
-            size: 0,
-            kind: 0,
-            masked: 0,
-        }; 128],
-        capacity: 0,
-        limit: 0,
-        len: 0,
-        count: 0,
-        layout: 0,
-    };
-    builder_into(zeros, b)
+impl CBuilderColumn {
+    // Whether its numbers name cases.
+    fn is_column(&self) -> bool
+        ensures { result ≡ is_builder_column self.now }
+    {
+        is_case(self.kind, self.masked)
+    }
+
+    // Whether the numbers of each name cases. In `is_builder` itself the `all` was not proved.
+    fn are_columns(columns: &[CBuilderColumn]) -> bool
+        ensures { result ≡ list_all is_builder_column columns.now }
+    {
+        columns.iter().all(|c| c.is_column())
+    }
+}
+
+impl From<CBuilderColumn> for BuilderColumn {
+    ghost from_gives = { λ c column. column ≡ builder_column_from c };
+
+    fn from(c: CBuilderColumn) -> BuilderColumn {
+        BuilderColumn {
+            slots: c.slots,
+            size: c.size,
+            kind: Kind::from_number(c.kind),
+            masked: c.masked == 1,
+        }
+    }
+}
+
+impl From<BuilderColumn> for CBuilderColumn {
+    ghost from_gives = { λ column c. c ≡ builder_column_to column };
+
+    fn from(column: BuilderColumn) -> CBuilderColumn {
+        CBuilderColumn {
+            slots: column.slots,
+            size: column.size,
+            kind: column.kind.number(),
+            masked: column.masked as u8,
+        }
+    }
+}
+
+impl CBuilder {
+    // The builder of zeros.
+    pub(crate) fn zeros() -> CBuilder
+        ensures { result ≡ no_c_builder }
+    {
+        CBuilder {
+            columns: [CBuilderColumn {
+                slots: 0,
+                size: 0,
+                kind: 0,
+                masked: 0,
+            }; 128],
+            capacity: 0,
+            limit: 0,
+            len: 0,
+            count: 0,
+            layout: 0,
+        }
+    }
+
+    // Whether each number of its columns in use names a case, and its layout does. Later columns are not read.
+    #[tactic(auto, using(crate::proofs::Maps::all_used), unfolding(crate::specs::Builders::is_builder))]
+    pub fn is_builder(&self) -> bool
+        ensures { result ≡ is_builder self.now }
+    {
+        let n = in_use(self.count);
+        self.layout < 2 && CBuilderColumn::are_columns(&self.columns[..n])
+    }
+
+    // The builder that a caller keeps; a number that names no case is read as the first.
+    #[tactic(auto, using(crate::proofs::Maps::written_is), unfolding(crate::specs::Builders::builder_from))]
+    pub fn builder(&self) -> UnionBuilder
+        ensures { result ≡ builder_from self.now }
+    {
+        let n = in_use(self.count);
+        UnionBuilder {
+            columns: turned(&self.columns[..n], [BuilderColumn::zeros(); 128]),
+            capacity: self.capacity,
+            limit: self.limit,
+            len: self.len,
+            count: self.count,
+            layout: layout_from(self.layout),
+        }
+    }
+
+    // The builder that a caller keeps, if its numbers name cases, as an array's.
+    pub fn read(&self) -> Result<UnionBuilder, Refusal>
+        ensures { result ≡ builder_named self.now }
+    {
+        if !self.is_builder() {
+            return Err(Refusal::UnknownNumber);
+        }
+        Ok(self.builder())
+    }
+
+    // A builder as it is handed to a caller who keeps this one: columns past those in use stay as they are.
+    #[tactic(auto, using(crate::proofs::Maps::written_is), unfolding(crate::specs::Builders::builder_into))]
+    pub fn holding(&self, b: UnionBuilder) -> CBuilder
+        ensures { result ≡ builder_into self.now b }
+    {
+        let n = in_use(b.count);
+        CBuilder {
+            columns: turned(&b.columns[..n], self.columns),
+            capacity: b.capacity,
+            limit: b.limit,
+            len: b.len,
+            count: b.count,
+            layout: b.layout as u8,
+        }
+    }
+}
+
+impl From<UnionBuilder> for CBuilder {
+    ghost from_gives = { λ b c. c ≡ builder_to b };
+
+    fn from(b: UnionBuilder) -> CBuilder {
+        CBuilder::zeros().holding(b)
+    }
 }

@@ -1,4 +1,5 @@
-// The C structs, of plain numbers, and their conversion to and from the structs of the crates below.
+// The C structs, and their conversion to and from the structs of the crates below. Kinds, layouts, flags, routes and refusals are
+// numbers here, and lists arrays, since the fields are those of the C header.
 #![tactic(auto)]
 
 pub mod answers;

@@ -1,12 +1,11 @@
 -- Each call on an array at the boundary.
 use Rattle.std.specs.Prelude.{false, ℕ, ℤ, pos, replicate}
 use Rattle.union_array.specs.declared.UnionArray.{UnionArray}
-use Rattle.union_array.specs.declared.Flag.{Flag}
 use Rattle.union_array.specs.Types.{no_column, no_array}
 use Rattle.array_columns.specs.Buffers.{Buffers}
 use Rattle.array_columns.specs.Refusal.{if_yes}
 use Rattle.union_array.specs.Questions.{asked}
-use Rattle.union_array.specs.Lookup.{try_new_of, no_value, value_of, type_id_of, value_offset_of, child_of, no_name, type_names_of, is_dense_of, is_nullable_of}
+use Rattle.union_array.specs.Lookup.{Flag, try_new_of, no_value, value_of, type_id_of, value_offset_of, child_of, no_name, type_names_of, is_dense_of, is_nullable_of}
 use Rattle.union_array.specs.Slices.{slice_of}
 use Rattle.array_columns.specs.Numbers.{bad_number}
 use Rattle.union_c.specs.declared.CArray.{CArray}
@@ -53,8 +52,12 @@ c_is_nullable a m = flag_to (at_boundary (is_array a) (is_nullable_of (array_fro
 abbrev pub part_of : UnionArray → ℕ → CPart
 part_of a n = record { start = if_yes n a.start 0; count = if_yes n a.count 0; refusal = n }
 
+-- 1 to 6
+abbrev pub c_asked : CArray → Buffers → ℕ
+c_asked a m = at_boundary (is_array a) (asked (array_from a) m) bad_number
+
 unfoldable pub c_type_ids : CArray → Buffers → CPart
-c_type_ids a m = part_of (array_from a) (at_boundary (is_array a) (asked (array_from a) m) bad_number)
+c_type_ids a m = part_of (array_from a) (c_asked a m)
 
 unfoldable pub c_slice : CArray → Buffers → ℕ → ℕ → CSlice
 c_slice a m o n = slice_to (at_boundary (is_array a) (slice_of (array_from a) m o n) (record { array = no_array; refusal = bad_number }))

@@ -1,9 +1,12 @@
 -- Each call on a builder at the boundary.
-use Rattle.std.specs.Prelude.{◌&&◌, List, ℕ}
+use Rattle.std.specs.Prelude.{◌&&◌, List, ℕ, Result}
 use Rattle.std.proofs.Math.Option.{Option}
+use Rattle.array_columns.specs.declared.Kind.{Kind}
 use Rattle.array_columns.specs.declared.Layout.{Layout}
+use Rattle.array_columns.specs.declared.Refusal.{Refusal}
 use Rattle.array_columns.specs.Buffers.{Buffers}
 use Rattle.array_columns.specs.Numbers.{kind_from, is_kind, bad_number}
+use Rattle.union_builder.specs.declared.UnionBuilder.{UnionBuilder}
 use Rattle.union_builder.specs.Builder.{made_of}
 use Rattle.union_builder.specs.Append.{AppendOutcome, append_with}
 use Rattle.union_builder.specs.Finish.{len_of, finish_cloned_of, finish_of}
@@ -11,6 +14,7 @@ use Rattle.union_c.specs.declared.CBuilder.{CBuilder}
 use Rattle.union_c.specs.declared.CBuilt.{CBuilt}
 use Rattle.union_c.specs.declared.CLength.{CLength}
 use Rattle.union_c.specs.declared.CFinished.{CFinished}
+use Rattle.union_c.specs.Numbers.{named}
 use Rattle.union_c.specs.Builders.{builder_from, is_builder, built, made_to, appended_to, length_to, cloned_to, finished_to, not_finished}
 use Rattle.union_ffi.specs.Boundary.{at_boundary}
 
@@ -28,6 +32,10 @@ outcome_to c r = c_outcome (appended_to c r.answer) r.buffers
 -- ---- the calls: a number that names no case hands the builder back as it came
 abbrev pub c_made : Layout → ℕ → ℕ → Buffers → CBuilt
 c_made l c k m = made_to (made_of l c k m)
+
+-- the builder and the kind that an append's numbers name, or the refusal
+abbrev pub append_named : CBuilder → ℕ → Result (UnionBuilder × Kind) Refusal
+append_named b kind = named (λ c. is_builder c && is_kind kind) (λ c. (builder_from c, kind_from kind)) b
 
 -- an append of a value, or of none
 unfoldable pub c_append_with : CBuilder → Buffers → List ℕ → ℕ → Option ℕ → COutcome

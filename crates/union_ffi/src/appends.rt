@@ -1,42 +1,26 @@
-// Runs of appends, for C: the builder is read and written once for all readings of a run.
+// Runs of appends, for C: the builder is read and written once for all readings of a run. A `match`, as in
+// `array`. The arguments are C's.
 ghost use Rattle.std.specs.Prelude.{◌≡◌};
-ghost use Rattle.array_columns.specs.Buffers.{buffers_of};
-ghost use Rattle.union_builder.specs.Appends.{readings_of};
+ghost use Rattle.array_columns.specs.Buffers.{held, Same};
 ghost use Rattle.union_ffi.specs.Appends.{c_appended, c_appends};
 
-use union_c::{CBuilder, CBuilt, answers, convert};
+use array_columns::BuffersMut;
+use builder_appends::Readings;
+use union_c::{CBuilder, CBuilt};
 
 // Appends the readings in order: names in the text, kinds and presence by their numbers, and the values' bits.
+#[tactic(auto, unfolding(crate::specs::Appends::c_appends))]
 pub fn union_builder_appends(
-    builder: CBuilder,
-    text: &[u8],
-    starts: &[u32],
-    sizes: &[u8],
-    kinds: &[u8],
-    present: &[u8],
-    bits: &[u64],
-    type_ids: &mut [i8],
-    offsets: &mut [i32],
-    values: &mut [u64],
-    masks: &mut [u64],
-    names: &mut [u8],
+    builder: &CBuilder,
+    readings: &Readings,
+    lent: &mut BuffersMut,
     refusals: &mut [u8],
 ) -> CBuilt
-    ensures { c_appended result (buffers_of type_ids.new offsets.new values.new masks.new names.new) refusals.new
-        ≡ c_appends builder (buffers_of type_ids.old offsets.old values.old masks.old names.old) (readings_of text.now starts.now sizes.now kinds.now present.now bits.now) refusals.old }
+    ensures same { Same lent.new lent.old }
+    ensures after { c_appended result (held lent.new) refusals.new ≡ c_appends builder.now (held lent.old) readings.now refusals.old }
 {
-    if !convert::is_builder(builder) {
-        return CBuilt {
-            builder: builder,
-            refusal: 128,
-        };
+    match builder.read() {
+        Ok(b) => builder.appended(b.appends(readings, lent, refusals)),
+        Err(refusal) => builder.refused(refusal),
     }
-    let b = convert::builder_from(builder);
-    answers::appended_to(
-        builder,
-        b.appends(
-            text, starts, sizes, kinds, present, bits, type_ids, offsets, values, masks, names,
-            refusals,
-        ),
-    )
 }

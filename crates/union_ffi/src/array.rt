@@ -1,252 +1,136 @@
-// The calls on an array, for C.
+// The calls on an array, for C. Each is a `match` of its own: handed to `and_then` or to one function as a closure, none is proved
+// without a proof written out, and a function with `?` for each would be two for one. A slot's number goes with the array and the
+// memory in one call alone, so no struct holds them.
 ghost use Rattle.std.specs.Prelude.{◌≡◌};
-ghost use Rattle.array_columns.specs.Buffers.{buffers_of};
-ghost use Rattle.union_ffi.specs.Arrays.{c_try_new, c_value, c_type_id, c_value_offset, c_child, c_type_names, c_is_dense, c_is_nullable, c_type_ids, c_slice};
+ghost use Rattle.array_columns.specs.Refusal.{number_of};
+ghost use Rattle.union_ffi.specs.Arrays.{c_try_new, c_value, c_type_id, c_value_offset, c_child, c_type_names, c_is_dense, c_is_nullable, c_type_ids, c_slice, c_asked};
 
-use array_columns::child_value;
-use union_array::{NamePlace, TypeNames, questions, slices};
-use union_c::{
-    CArray, CChild, CFlag, CPart, CSlice, CTypeId, CTypeNames, CValue, CValueOffset, convert,
-};
+use array_columns::refusals::number_of;
+use array_columns::{Buffers, Refusal};
+use union_c::{CArray, CChild, CFlag, CPart, CSlice, CTypeId, CTypeNames, CValue, CValueOffset};
 
 // Whether the description is one of a union array over the memory lent.
-pub fn union_array_try_new(
-    array: CArray,
-    type_ids: &[i8],
-    offsets: &[i32],
-    values: &[u64],
-    masks: &[u64],
-    names: &[u8],
-) -> u8
-    ensures { result ≡ c_try_new array (buffers_of type_ids.now offsets.now values.now masks.now names.now) }
+#[tactic(auto, unfolding(crate::specs::Arrays::c_try_new))]
+pub fn union_array_try_new(array: &CArray, lent: &Buffers) -> u8
+    ensures { result ≡ c_try_new array.now lent.now }
 {
-    if !convert::is_array(array) {
-        return 128;
+    match array.read() {
+        Ok(a) => number_of(a.try_new(lent)),
+        Err(refusal) => refusal.number(),
     }
-    let a = convert::array_from(array);
-    a.try_new(type_ids, offsets, values, masks, names)
 }
 
 // Slot i's id, name, kind and value.
-pub fn union_array_value(
-    array: CArray,
-    i: usize,
-    type_ids: &[i8],
-    offsets: &[i32],
-    values: &[u64],
-    masks: &[u64],
-    names: &[u8],
-) -> CValue
-    ensures { result ≡ c_value array (buffers_of type_ids.now offsets.now values.now masks.now names.now) i }
+#[tactic(auto, unfolding(crate::specs::Arrays::c_value))]
+pub fn union_array_value(array: &CArray, i: usize, lent: &Buffers) -> CValue
+    ensures { result ≡ c_value array.now lent.now i }
 {
-    if !convert::is_array(array) {
-        return convert::value_to(child_value::no_value(128));
+    match array.read() {
+        Ok(a) => CValue::from(a.value(i, lent)),
+        Err(refusal) => CValue::from(Err(refusal)),
     }
-    let a = convert::array_from(array);
-    convert::value_to(a.value(i, type_ids, offsets, values, masks, names))
 }
 
 // Slot i's type id.
-pub fn union_array_type_id(
-    array: CArray,
-    i: usize,
-    type_ids: &[i8],
-    offsets: &[i32],
-    values: &[u64],
-    masks: &[u64],
-    names: &[u8],
-) -> CTypeId
-    ensures { result ≡ c_type_id array (buffers_of type_ids.now offsets.now values.now masks.now names.now) i }
+#[tactic(auto, unfolding(crate::specs::Arrays::c_type_id))]
+pub fn union_array_type_id(array: &CArray, i: usize, lent: &Buffers) -> CTypeId
+    ensures { result ≡ c_type_id array.now lent.now i }
 {
-    if !convert::is_array(array) {
-        return CTypeId {
-            refusal: 128,
-            id: 0,
-        };
-    }
-    let a = convert::array_from(array);
-    let t = a.type_id(i, type_ids, offsets, values, masks, names);
-    CTypeId {
-        refusal: t.refusal,
-        id: t.id,
+    match array.read() {
+        Ok(a) => CTypeId::from(a.type_id(i, lent)),
+        Err(refusal) => CTypeId::from(Err(refusal)),
     }
 }
 
 // Slot i's slot in its child.
-pub fn union_array_value_offset(
-    array: CArray,
-    i: usize,
-    type_ids: &[i8],
-    offsets: &[i32],
-    values: &[u64],
-    masks: &[u64],
-    names: &[u8],
-) -> CValueOffset
-    ensures { result ≡ c_value_offset array (buffers_of type_ids.now offsets.now values.now masks.now names.now) i }
+#[tactic(auto, unfolding(crate::specs::Arrays::c_value_offset))]
+pub fn union_array_value_offset(array: &CArray, i: usize, lent: &Buffers) -> CValueOffset
+    ensures { result ≡ c_value_offset array.now lent.now i }
 {
-    if !convert::is_array(array) {
-        return CValueOffset {
-            offset: 0,
-            refusal: 128,
-        };
-    }
-    let a = convert::array_from(array);
-    let o = a.value_offset(i, type_ids, offsets, values, masks, names);
-    CValueOffset {
-        offset: o.offset,
-        refusal: o.refusal,
+    match array.read() {
+        Ok(a) => CValueOffset::from(a.value_offset(i, lent)),
+        Err(refusal) => CValueOffset::from(Err(refusal)),
     }
 }
 
 // The column with an id.
-pub fn union_array_child(
-    array: CArray,
-    id: i8,
-    type_ids: &[i8],
-    offsets: &[i32],
-    values: &[u64],
-    masks: &[u64],
-    names: &[u8],
-) -> CChild
-    ensures { result ≡ c_child array (buffers_of type_ids.now offsets.now values.now masks.now names.now) id }
+#[tactic(auto, unfolding(crate::specs::Arrays::c_child))]
+pub fn union_array_child(array: &CArray, id: i8, lent: &Buffers) -> CChild
+    ensures { result ≡ c_child array.now lent.now id }
 {
-    if !convert::is_array(array) {
-        return CChild {
-            column: convert::column_to(array_columns::questions::no_column()),
-            refusal: 128,
-        };
-    }
-    let a = convert::array_from(array);
-    let r = a.child(id, type_ids, offsets, values, masks, names);
-    let c = r.column;
-    CChild {
-        column: convert::column_to(c),
-        refusal: r.refusal,
+    match array.read() {
+        Ok(a) => CChild::from(a.child(id, lent)),
+        Err(refusal) => CChild::from(Err(refusal)),
     }
 }
 
 // The places of the names, in list order, and how many.
-pub fn union_array_type_names(
-    array: CArray,
-    type_ids: &[i8],
-    offsets: &[i32],
-    values: &[u64],
-    masks: &[u64],
-    names: &[u8],
-) -> CTypeNames
-    ensures { result ≡ c_type_names array (buffers_of type_ids.now offsets.now values.now masks.now names.now) }
+#[tactic(auto, unfolding(crate::specs::Arrays::c_type_names))]
+pub fn union_array_type_names(array: &CArray, lent: &Buffers) -> CTypeNames
+    ensures { result ≡ c_type_names array.now lent.now }
 {
-    if !convert::is_array(array) {
-        return convert::type_names_to(TypeNames {
-            names: [NamePlace { start: 0, size: 0 }; 128],
-            count: 0,
-            refusal: 128,
-        });
+    match array.read() {
+        Ok(a) => CTypeNames::from(a.type_names(lent)),
+        Err(refusal) => CTypeNames::from(Err(refusal)),
     }
-    let a = convert::array_from(array);
-    convert::type_names_to(a.type_names(type_ids, offsets, values, masks, names))
 }
 
 // Whether the layout is dense.
-pub fn union_array_is_dense(
-    array: CArray,
-    type_ids: &[i8],
-    offsets: &[i32],
-    values: &[u64],
-    masks: &[u64],
-    names: &[u8],
-) -> CFlag
-    ensures { result ≡ c_is_dense array (buffers_of type_ids.now offsets.now values.now masks.now names.now) }
+#[tactic(auto, unfolding(crate::specs::Arrays::c_is_dense))]
+pub fn union_array_is_dense(array: &CArray, lent: &Buffers) -> CFlag
+    ensures { result ≡ c_is_dense array.now lent.now }
 {
-    if !convert::is_array(array) {
-        return CFlag {
-            refusal: 128,
-            holds: 0,
-        };
+    match array.read() {
+        Ok(a) => CFlag::from(a.is_dense(lent)),
+        Err(refusal) => CFlag::from(Err(refusal)),
     }
-    let a = convert::array_from(array);
-    convert::flag_answer_to(a.is_dense(type_ids, offsets, values, masks, names))
 }
 
 // Whether some child has a null anywhere in it.
-pub fn union_array_is_nullable(
-    array: CArray,
-    type_ids: &[i8],
-    offsets: &[i32],
-    values: &[u64],
-    masks: &[u64],
-    names: &[u8],
-) -> CFlag
-    ensures { result ≡ c_is_nullable array (buffers_of type_ids.now offsets.now values.now masks.now names.now) }
+#[tactic(auto, unfolding(crate::specs::Arrays::c_is_nullable))]
+pub fn union_array_is_nullable(array: &CArray, lent: &Buffers) -> CFlag
+    ensures { result ≡ c_is_nullable array.now lent.now }
 {
-    if !convert::is_array(array) {
-        return CFlag {
-            refusal: 128,
-            holds: 0,
-        };
+    match array.read() {
+        Ok(a) => CFlag::from(a.is_nullable(lent)),
+        Err(refusal) => CFlag::from(Err(refusal)),
     }
-    let a = convert::array_from(array);
-    convert::flag_answer_to(a.is_nullable(type_ids, offsets, values, masks, names))
+}
+
+// Questions 1 to 6 of the array that a caller describes.
+fn asked(array: &CArray, lent: &Buffers) -> Result<(), Refusal>
+    ensures { number_of result ≡ c_asked array.now lent.now }
+{
+    array.read()?.ask(lent)
 }
 
 // Where the array's type ids are among those lent: the start and the count of that part.
-pub fn union_array_type_ids(
-    array: CArray,
-    type_ids: &[i8],
-    offsets: &[i32],
-    values: &[u64],
-    masks: &[u64],
-    names: &[u8],
-) -> CPart
-    ensures { result ≡ c_type_ids array (buffers_of type_ids.now offsets.now values.now masks.now names.now) }
+#[tactic(auto, unfolding(crate::specs::Arrays::c_type_ids, union_c::specs::Arrays::array_from))]
+pub fn union_array_type_ids(array: &CArray, lent: &Buffers) -> CPart
+    ensures { result ≡ c_type_ids array.now lent.now }
 {
-    if !convert::is_array(array) {
-        return CPart {
+    match asked(array, lent) {
+        Ok(()) => CPart {
+            start: array.start,
+            count: array.count,
+            refusal: 0,
+        },
+        Err(refusal) => CPart {
             start: 0,
             count: 0,
-            refusal: 128,
-        };
-    }
-    let a = convert::array_from(array);
-    let r = questions::ask(a, type_ids, offsets, values, masks, names);
-    if r != 0 {
-        return CPart {
-            start: 0,
-            count: 0,
-            refusal: r,
-        };
-    }
-    CPart {
-        start: a.start,
-        count: a.count,
-        refusal: 0,
+            refusal: refusal.number(),
+        },
     }
 }
 
 // Slots o to o + n - 1.
-pub fn union_array_slice(
-    array: CArray,
-    o: usize,
-    n: usize,
-    type_ids: &[i8],
-    offsets: &[i32],
-    values: &[u64],
-    masks: &[u64],
-    names: &[u8],
-) -> CSlice
-    ensures { result ≡ c_slice array (buffers_of type_ids.now offsets.now values.now masks.now names.now) o n }
+#[tactic(auto, unfolding(crate::specs::Arrays::c_slice))]
+pub fn union_array_slice(array: &CArray, o: usize, n: usize, lent: &Buffers) -> CSlice
+    ensures { result ≡ c_slice array.now lent.now o n }
 {
-    if !convert::is_array(array) {
-        return CSlice {
-            array: convert::array_to(slices::no_array()),
-            refusal: 128,
-        };
-    }
-    let a = convert::array_from(array);
-    let s = a.slice(o, n, type_ids, offsets, values, masks, names);
-    let out = s.array;
-    CSlice {
-        array: convert::array_to(out),
-        refusal: s.refusal,
-    }
+    let answer = match array.read() {
+        Ok(a) => a.slice(o, n, lent),
+        Err(refusal) => Err(refusal),
+    };
+    CSlice::from(answer)
 }

@@ -1,4 +1,5 @@
-// The calls for C and Rust: plain numbers, C structs of numbers, and slices. union_ffi_c exports each to C under its name.
+// The calls for C and Rust, over C structs and borrowed memory. union_ffi_c exports each to C under its name: a crate is a library, or
+// the static library with C's parameters.
 #![tactic(auto)]
 
 pub mod appends;

@@ -1,33 +1,28 @@
-// Runs of lookups, for C: the description is read once for all slots of a run.
+// Runs of lookups, for C: the description is read once for all slots of a run. Each a `match`, as in `array`.
 ghost use Rattle.std.specs.Prelude.{◌≡◌};
-ghost use Rattle.array_columns.specs.Buffers.{buffers_of};
 ghost use Rattle.union_array.specs.Values.{values_answer};
 ghost use Rattle.union_ffi.specs.Values.{c_values};
 
-use union_c::{CArray, convert};
+use array_columns::Buffers;
+use array_columns::refusals::number_of;
+use union_c::CArray;
 
 // The ids, the presence (1 where missing) and the values of n slots from `first` on, as `union_array_value` tells them one by one.
+// C hands over three outputs.
+#[tactic(auto, unfolding(crate::specs::Values::c_values))]
 pub fn union_array_values(
-    array: CArray,
+    array: &CArray,
     first: usize,
     n: usize,
-    type_ids: &[i8],
-    offsets: &[i32],
-    values: &[u64],
-    masks: &[u64],
-    names: &[u8],
+    lent: &Buffers,
     ids: &mut [i8],
     missing: &mut [u8],
     bits: &mut [u64],
 ) -> u8
-    ensures { values_answer result ids.new missing.new bits.new
-        ≡ c_values array (buffers_of type_ids.now offsets.now values.now masks.now names.now) first n ids.old missing.old bits.old }
+    ensures { values_answer result ids.new missing.new bits.new ≡ c_values array.now lent.now first n ids.old missing.old bits.old }
 {
-    if !convert::is_array(array) {
-        return 128;
+    match array.read() {
+        Ok(a) => number_of(a.values(first, n, lent, ids, missing, bits)),
+        Err(refusal) => refusal.number(),
     }
-    let a = convert::array_from(array);
-    a.values(
-        first, n, type_ids, offsets, values, masks, names, ids, missing, bits,
-    )
 }

@@ -1,9 +1,12 @@
 // Runs of appends, for C: the builder is read and written once for all readings of a run.
+// The parameters are those of the C header: lent memory is five slices.
 ghost use Rattle.std.specs.Prelude.{◌≡◌};
 ghost use Rattle.array_columns.specs.Buffers.{buffers_of};
 ghost use Rattle.union_builder.specs.Appends.{readings_of};
 ghost use Rattle.union_ffi.specs.Appends.{c_appended, c_appends};
 
+use array_columns::BuffersMut;
+use builder_appends::Readings;
 use union_c::{CBuilder, CBuilt};
 
 // Appends the readings in order: names in the text, kinds and presence by their numbers, and the values' bits.
@@ -27,7 +30,22 @@ pub extern "C" fn union_builder_appends(
         ≡ c_appends builder (buffers_of type_ids.old offsets.old values.old masks.old names.old) (readings_of text.now starts.now sizes.now kinds.now present.now bits.now) refusals.old }
 {
     union_ffi::appends::union_builder_appends(
-        builder, text, starts, sizes, kinds, present, bits, type_ids, offsets, values, masks,
-        names, refusals,
+        &builder,
+        &Readings {
+            text,
+            starts,
+            sizes,
+            kinds,
+            present,
+            bits,
+        },
+        &mut BuffersMut {
+            type_ids,
+            offsets,
+            values,
+            masks,
+            names,
+        },
+        refusals,
     )
 }

@@ -1,8 +1,10 @@
 // The calls on an array, for C.
+// The parameters are those of the C header: lent memory is five slices, and like calls have like ones.
 ghost use Rattle.std.specs.Prelude.{◌≡◌};
 ghost use Rattle.array_columns.specs.Buffers.{buffers_of};
 ghost use Rattle.union_ffi.specs.Arrays.{c_try_new, c_value, c_type_id, c_value_offset, c_child, c_type_names, c_is_dense, c_is_nullable, c_type_ids, c_slice};
 
+use array_columns::Buffers;
 use union_c::{CArray, CChild, CFlag, CPart, CSlice, CTypeId, CTypeNames, CValue, CValueOffset};
 
 // Whether the description is one of a union array over the memory lent.
@@ -17,7 +19,16 @@ pub extern "C" fn union_array_try_new(
 ) -> u8
     ensures { result ≡ c_try_new array (buffers_of type_ids.now offsets.now values.now masks.now names.now) }
 {
-    union_ffi::array::union_array_try_new(array, type_ids, offsets, values, masks, names)
+    union_ffi::array::union_array_try_new(
+        &array,
+        &Buffers {
+            type_ids,
+            offsets,
+            values,
+            masks,
+            names,
+        },
+    )
 }
 
 // Slot i's id, name, kind and value.
@@ -33,7 +44,17 @@ pub extern "C" fn union_array_value(
 ) -> CValue
     ensures { result ≡ c_value array (buffers_of type_ids.now offsets.now values.now masks.now names.now) i }
 {
-    union_ffi::array::union_array_value(array, i, type_ids, offsets, values, masks, names)
+    union_ffi::array::union_array_value(
+        &array,
+        i,
+        &Buffers {
+            type_ids,
+            offsets,
+            values,
+            masks,
+            names,
+        },
+    )
 }
 
 // Slot i's type id.
@@ -49,7 +70,17 @@ pub extern "C" fn union_array_type_id(
 ) -> CTypeId
     ensures { result ≡ c_type_id array (buffers_of type_ids.now offsets.now values.now masks.now names.now) i }
 {
-    union_ffi::array::union_array_type_id(array, i, type_ids, offsets, values, masks, names)
+    union_ffi::array::union_array_type_id(
+        &array,
+        i,
+        &Buffers {
+            type_ids,
+            offsets,
+            values,
+            masks,
+            names,
+        },
+    )
 }
 
 // Slot i's slot in its child.
@@ -65,7 +96,17 @@ pub extern "C" fn union_array_value_offset(
 ) -> CValueOffset
     ensures { result ≡ c_value_offset array (buffers_of type_ids.now offsets.now values.now masks.now names.now) i }
 {
-    union_ffi::array::union_array_value_offset(array, i, type_ids, offsets, values, masks, names)
+    union_ffi::array::union_array_value_offset(
+        &array,
+        i,
+        &Buffers {
+            type_ids,
+            offsets,
+            values,
+            masks,
+            names,
+        },
+    )
 }
 
 // The column with an id.
@@ -81,7 +122,17 @@ pub extern "C" fn union_array_child(
 ) -> CChild
     ensures { result ≡ c_child array (buffers_of type_ids.now offsets.now values.now masks.now names.now) id }
 {
-    union_ffi::array::union_array_child(array, id, type_ids, offsets, values, masks, names)
+    union_ffi::array::union_array_child(
+        &array,
+        id,
+        &Buffers {
+            type_ids,
+            offsets,
+            values,
+            masks,
+            names,
+        },
+    )
 }
 
 // The places of the names, in list order, and how many.
@@ -96,7 +147,16 @@ pub extern "C" fn union_array_type_names(
 ) -> CTypeNames
     ensures { result ≡ c_type_names array (buffers_of type_ids.now offsets.now values.now masks.now names.now) }
 {
-    union_ffi::array::union_array_type_names(array, type_ids, offsets, values, masks, names)
+    union_ffi::array::union_array_type_names(
+        &array,
+        &Buffers {
+            type_ids,
+            offsets,
+            values,
+            masks,
+            names,
+        },
+    )
 }
 
 // Whether the layout is dense.
@@ -111,7 +171,16 @@ pub extern "C" fn union_array_is_dense(
 ) -> CFlag
     ensures { result ≡ c_is_dense array (buffers_of type_ids.now offsets.now values.now masks.now names.now) }
 {
-    union_ffi::array::union_array_is_dense(array, type_ids, offsets, values, masks, names)
+    union_ffi::array::union_array_is_dense(
+        &array,
+        &Buffers {
+            type_ids,
+            offsets,
+            values,
+            masks,
+            names,
+        },
+    )
 }
 
 // Whether some child has a null anywhere in it.
@@ -126,7 +195,16 @@ pub extern "C" fn union_array_is_nullable(
 ) -> CFlag
     ensures { result ≡ c_is_nullable array (buffers_of type_ids.now offsets.now values.now masks.now names.now) }
 {
-    union_ffi::array::union_array_is_nullable(array, type_ids, offsets, values, masks, names)
+    union_ffi::array::union_array_is_nullable(
+        &array,
+        &Buffers {
+            type_ids,
+            offsets,
+            values,
+            masks,
+            names,
+        },
+    )
 }
 
 // Where the array's type ids are among those lent: the start and the count of that part.
@@ -141,7 +219,16 @@ pub extern "C" fn union_array_type_ids(
 ) -> CPart
     ensures { result ≡ c_type_ids array (buffers_of type_ids.now offsets.now values.now masks.now names.now) }
 {
-    union_ffi::array::union_array_type_ids(array, type_ids, offsets, values, masks, names)
+    union_ffi::array::union_array_type_ids(
+        &array,
+        &Buffers {
+            type_ids,
+            offsets,
+            values,
+            masks,
+            names,
+        },
+    )
 }
 
 // Slots o to o + n - 1.
@@ -158,5 +245,16 @@ pub extern "C" fn union_array_slice(
 ) -> CSlice
     ensures { result ≡ c_slice array (buffers_of type_ids.now offsets.now values.now masks.now names.now) o n }
 {
-    union_ffi::array::union_array_slice(array, o, n, type_ids, offsets, values, masks, names)
+    union_ffi::array::union_array_slice(
+        &array,
+        o,
+        n,
+        &Buffers {
+            type_ids,
+            offsets,
+            values,
+            masks,
+            names,
+        },
+    )
 }

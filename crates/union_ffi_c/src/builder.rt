@@ -1,10 +1,12 @@
 // The makings of a builder and the calls on it, for C.
+// The parameters are those of the C header: lent memory is five slices, a kind a number, and like calls have like ones.
 ghost use Rattle.std.specs.Prelude.{◌≡◌};
 ghost use Rattle.std.proofs.Math.Option.{none, some};
 ghost use Rattle.array_columns.specs.declared.Layout.TheVariants.{Sparse, Dense};
 ghost use Rattle.array_columns.specs.Buffers.{buffers_of};
 ghost use Rattle.union_ffi.specs.Builders.{c_outcome, c_made, c_append_with, c_len, c_finish_cloned, c_finish};
 
+use array_columns::{Buffers, BuffersMut};
 use union_c::{CBuilder, CBuilt, CFinished, CLength};
 
 // A dense builder of `capacity` slots and at most `limit` columns.
@@ -21,7 +23,15 @@ pub extern "C" fn union_builder_with_capacity_dense(
     ensures { result ≡ c_made Dense capacity limit (buffers_of type_ids.now offsets.now values.now masks.now names.now) }
 {
     union_ffi::builder::union_builder_with_capacity_dense(
-        capacity, limit, type_ids, offsets, values, masks, names,
+        capacity,
+        limit,
+        &Buffers {
+            type_ids,
+            offsets,
+            values,
+            masks,
+            names,
+        },
     )
 }
 
@@ -39,7 +49,15 @@ pub extern "C" fn union_builder_with_capacity_sparse(
     ensures { result ≡ c_made Sparse capacity limit (buffers_of type_ids.now offsets.now values.now masks.now names.now) }
 {
     union_ffi::builder::union_builder_with_capacity_sparse(
-        capacity, limit, type_ids, offsets, values, masks, names,
+        capacity,
+        limit,
+        &Buffers {
+            type_ids,
+            offsets,
+            values,
+            masks,
+            names,
+        },
     )
 }
 
@@ -55,7 +73,16 @@ pub extern "C" fn union_builder_new_dense(
 ) -> CBuilt
     ensures { result ≡ c_made Dense 1024 limit (buffers_of type_ids.now offsets.now values.now masks.now names.now) }
 {
-    union_ffi::builder::union_builder_new_dense(limit, type_ids, offsets, values, masks, names)
+    union_ffi::builder::union_builder_new_dense(
+        limit,
+        &Buffers {
+            type_ids,
+            offsets,
+            values,
+            masks,
+            names,
+        },
+    )
 }
 
 // A sparse builder of 1024 slots.
@@ -70,7 +97,16 @@ pub extern "C" fn union_builder_new_sparse(
 ) -> CBuilt
     ensures { result ≡ c_made Sparse 1024 limit (buffers_of type_ids.now offsets.now values.now masks.now names.now) }
 {
-    union_ffi::builder::union_builder_new_sparse(limit, type_ids, offsets, values, masks, names)
+    union_ffi::builder::union_builder_new_sparse(
+        limit,
+        &Buffers {
+            type_ids,
+            offsets,
+            values,
+            masks,
+            names,
+        },
+    )
 }
 
 // Appends a value to the column with the name.
@@ -90,7 +126,17 @@ pub extern "C" fn union_builder_append(
         ≡ c_append_with builder (buffers_of type_ids.old offsets.old values.old masks.old names.old) name.now kind (some bits) }
 {
     union_ffi::builder::union_builder_append(
-        builder, name, kind, bits, type_ids, offsets, values, masks, names,
+        &builder,
+        name,
+        kind,
+        bits,
+        &mut BuffersMut {
+            type_ids,
+            offsets,
+            values,
+            masks,
+            names,
+        },
     )
 }
 
@@ -109,9 +155,14 @@ pub extern "C" fn union_builder_append_null(
     ensures { c_outcome result (buffers_of type_ids.new offsets.new values.new masks.new names.new)
         ≡ c_append_with builder (buffers_of type_ids.old offsets.old values.old masks.old names.old) name.now kind none }
 {
-    union_ffi::builder::union_builder_append_null(
-        builder, name, kind, type_ids, offsets, values, masks, names,
-    )
+    let mut lent = BuffersMut {
+        type_ids,
+        offsets,
+        values,
+        masks,
+        names,
+    };
+    union_ffi::builder::union_builder_append_null(&builder, name, kind, &mut lent)
 }
 
 // How many slots there are. Nothing is asked.
@@ -119,7 +170,7 @@ pub extern "C" fn union_builder_append_null(
 pub extern "C" fn union_builder_len(builder: CBuilder) -> CLength
     ensures { result ≡ c_len builder }
 {
-    union_ffi::builder::union_builder_len(builder)
+    union_ffi::builder::union_builder_len(&builder)
 }
 
 // Describes the array so far, and keeps the builder.
@@ -135,7 +186,14 @@ pub extern "C" fn union_builder_finish_cloned(
     ensures { result ≡ c_finish_cloned builder (buffers_of type_ids.now offsets.now values.now masks.now names.now) }
 {
     union_ffi::builder::union_builder_finish_cloned(
-        builder, type_ids, offsets, values, masks, names,
+        &builder,
+        &Buffers {
+            type_ids,
+            offsets,
+            values,
+            masks,
+            names,
+        },
     )
 }
 
@@ -151,5 +209,14 @@ pub extern "C" fn union_builder_finish(
 ) -> CFinished
     ensures { result ≡ c_finish builder (buffers_of type_ids.now offsets.now values.now masks.now names.now) }
 {
-    union_ffi::builder::union_builder_finish(builder, type_ids, offsets, values, masks, names)
+    union_ffi::builder::union_builder_finish(
+        &builder,
+        &Buffers {
+            type_ids,
+            offsets,
+            values,
+            masks,
+            names,
+        },
+    )
 }

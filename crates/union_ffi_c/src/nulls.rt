@@ -1,8 +1,10 @@
 // The null mask, for C.
+// The parameters are those of the C header: lent memory is five slices.
 ghost use Rattle.std.specs.Prelude.{◌≡◌};
 ghost use Rattle.array_columns.specs.Buffers.{buffers_of};
 ghost use Rattle.union_ffi.specs.Nulls.{c_masked, c_logical_nulls, c_strategy};
 
+use array_columns::Buffers;
 use union_c::{CArray, CNulls};
 
 // The null mask at a gather cost: its answer, and its words in `out`.
@@ -19,7 +21,18 @@ pub extern "C" fn union_logical_nulls(
 ) -> CNulls
     ensures { c_masked result out.new ≡ c_logical_nulls array (buffers_of type_ids.now offsets.now values.now masks.now names.now) cost out.old }
 {
-    union_ffi::nulls::union_logical_nulls(array, cost, type_ids, offsets, values, masks, names, out)
+    union_ffi::nulls::union_logical_nulls(
+        &array,
+        cost,
+        &Buffers {
+            type_ids,
+            offsets,
+            values,
+            masks,
+            names,
+        },
+        out,
+    )
 }
 
 // The null mask by one named strategy, given by its route's number: its answer, and its words in `out`.
@@ -37,6 +50,15 @@ pub extern "C" fn union_strategy(
     ensures { c_masked result out.new ≡ c_strategy array (buffers_of type_ids.now offsets.now values.now masks.now names.now) strategy out.old }
 {
     union_ffi::nulls::union_strategy(
-        array, strategy, type_ids, offsets, values, masks, names, out,
+        &array,
+        strategy,
+        &Buffers {
+            type_ids,
+            offsets,
+            values,
+            masks,
+            names,
+        },
+        out,
     )
 }

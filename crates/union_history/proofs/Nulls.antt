@@ -23,7 +23,7 @@ use Rattle.array_columns.specs.declared.Column.{Column}
 use Rattle.array_columns.specs.declared.Layout.{Layout}
 use Rattle.array_columns.specs.declared.Layout.TheVariants.{Dense, Sparse}
 use Rattle.union_array.specs.declared.UnionArray.{UnionArray}
-use Rattle.array_columns.specs.declared.Value.{Value}
+use Rattle.array_columns.specs.Lookup.{Value}
 use Rattle.null_strategy.specs.Route.{fully_nulls, has_null, how_many, is_absent, route_of, sparse_route, with_nulls}
 use Rattle.null_strategy.specs.declared.Route.{Route}
 use Rattle.null_strategy.specs.declared.Route.TheVariants.{Absent, OneField, AllNull, Gather as routeGather, SkipOne as routeSkipOne, SkipWithoutNulls as routeSkipWithout, SkipFullyNull as routeSkipFully}

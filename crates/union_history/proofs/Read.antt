@@ -22,7 +22,7 @@ use Rattle.array_columns.specs.declared.Column.{Column}
 use Rattle.array_columns.specs.declared.Layout.{Layout}
 use Rattle.array_columns.specs.declared.Layout.TheVariants.{Dense, Sparse}
 use Rattle.union_array.specs.declared.UnionArray.{UnionArray}
-use Rattle.array_columns.specs.declared.Value.{Value}
+use Rattle.array_columns.specs.Lookup.{Value}
 use Rattle.logical_nulls.specs.Mask.{logical_nulls_of, strategy_of}
 use Rattle.union_builder.specs.Append.{is_none, or_else}
 use Rattle.batch_description.specs.Description.{Named, assembled, ordered}

@@ -9,8 +9,8 @@ use Rattle.array_columns.specs.declared.Kind.{Kind}
 use Rattle.array_columns.specs.declared.Layout.{Layout}
 use Rattle.array_columns.specs.declared.Layout.TheVariants.{Sparse, Dense}
 use Rattle.union_array.specs.declared.UnionArray.{UnionArray}
-use Rattle.array_columns.specs.declared.Value.{Value}
-use Rattle.union_array.specs.declared.Slice.{Slice}
+use Rattle.array_columns.specs.Lookup.{Value}
+use Rattle.union_array.specs.Slices.{Slice}
 use Rattle.union_array.specs.Types.{by_layout}
 use Rattle.array_columns.specs.Buffers.{Buffers, amounts_of}
 use Rattle.array_columns.specs.Refusal.{if_yes}
@@ -21,7 +21,7 @@ use Rattle.logical_nulls.specs.declared.SparseStrategy.{SparseStrategy}
 use Rattle.logical_nulls.specs.Mask.{Masked, question14, logical_nulls_of, strategy_of}
 use Rattle.builder_columns.specs.declared.BuilderColumn.{BuilderColumn}
 use Rattle.union_builder.specs.declared.UnionBuilder.{UnionBuilder}
-use Rattle.union_builder.specs.declared.Finished.{Finished}
+use Rattle.union_builder.specs.Finish.{Finished}
 use Rattle.union_builder.specs.Builder.{made_of}
 use Rattle.union_builder.specs.Append.{AppendOutcome, is_none, or_else, append_of, append_null_of}
 use Rattle.batch_description.specs.Description.{assembled, described_column}

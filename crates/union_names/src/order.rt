@@ -3,7 +3,8 @@ ghost use Rattle.std.specs.Prelude.{◌≡◌, ◌<◌, ◌≤◌, length, All};
 ghost use Rattle.std.specs.List.{prefix_len};
 ghost use Rattle.union_names.specs.Order.{name_by, goes_before, order_of, NamesHeld};
 
-// The names of some columns: 32 bytes lent to each, of which `sizes` tells how many are its name's.
+// The names of some columns: 32 bytes lent to each, of which `sizes` tells how many are its name's. A column is asked for by its id, so
+// each call says that there is one.
 #[derive(Drop)]
 struct Names<'a> {
     bytes: &'a [u8],
@@ -45,7 +46,7 @@ impl Names<'_> {
     }
 }
 
-// The ids of the columns in order by name, then zeros.
+// The ids of the columns in order by name, then zeros: 128 at most, and there is no heap.
 #[tactic(auto, using(crate::proofs::Listing::order_none, crate::proofs::Listing::order_below, crate::proofs::Listing::order_more))]
 pub fn order_of(names: &[u8], sizes: &[u8]) -> [u8; 128]
     requires { NamesHeld names.now sizes.now (length sizes.now) }
@@ -56,6 +57,7 @@ pub fn order_of(names: &[u8], sizes: &[u8]) -> [u8; 128]
         sizes,
     };
     let mut order = [0u8; 128];
+    // The id k is what is put in.
     for k in 0..sizes.len() {
         let place = columns.place_of(&order[..k], k);
         order.copy_within(place..k, place + 1);

@@ -1,2 +1,3 @@
 pub mod KindNameLaws
+pub mod PrintLaws
 pub mod ValueLaws

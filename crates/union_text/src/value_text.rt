@@ -5,7 +5,7 @@ ghost use Rattle.union_text.specs.Values.{values_of, decimal_of, bits_of, Told};
 ghost use Rattle.union_text.specs.declared.Values.TheVariants.{Integers};
 
 use crate::Values;
-use array_columns::{Kind, child_value};
+use array_columns::Kind;
 use decimal::{hex, integer, write};
 use decimal_float::{Format, float, write_float};
 
@@ -65,7 +65,7 @@ pub fn bits_of(text: &[u8], kind: Kind) -> Option<u64>
     ensures { result ≡ bits_of kind text.now }
 {
     if hex::is_hex(text) {
-        return hex::read_hex(text, child_value::width(kind) / 4);
+        return hex::read_hex(text, kind.width() / 4);
     }
     Values::from(kind).read(text)
 }
@@ -75,7 +75,7 @@ pub fn value_text(bits: u64, kind: Kind, out: &mut [u8]) -> usize
     requires { 40 ≤ length out.old }
     ensures { Told (values_of kind) (low_bits (width_of kind) bits) out.old out.new result }
 {
-    let low = child_value::low_bits(bits, kind);
+    let low = kind.low_bits(bits);
     match Values::from(kind) {
         Values::Integers { lowest: _, highest } => write::write_integer(low, highest, out),
         Values::Floats(f) => write_float::write_float(low, f, out),

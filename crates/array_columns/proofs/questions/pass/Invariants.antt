@@ -1,13 +1,12 @@
--- `pass` meets its contract. Of the columns passed: the least number answered no, the place of the one with the id, and the ids seen.
-use Prim.Native.Nat.{◌-◌, ◌≤◌}
+-- `pass` meets its contract: it has asked of the columns passed, and has the ids seen.
 use mathlib.Core.Path.{◌≡◌}
 use lib.ListN.{length, take}
-use Rattle.array_columns.specs.Pass.{columns_fault}
-use Rattle.array_columns.proofs.OnePass.{Seen, Placed}
+use Rattle.array_columns.proofs.OnePass.{Seen, asked_of}
 use Rattle.array_columns.proofs.questions.pass.Given as goal
 
-abbrev pub invariant-loop-j : goal.invariant-loop-j
-invariant-loop-j l = (l.j ≤ l.fields) × (length l.seen ≡ 256) × (l.k ≡ columns_fault l.lent l.n l.dense (take l.j l.columns)) × Placed l.columns l.id l.fields l.j l.at × Seen (take l.j l.columns) l.seen
-
-abbrev pub decreases-loop-j : goal.decreases-loop-j
-decreases-loop-j l = l.fields - l.j
+abbrev pub invariant-loop-c : goal.invariant-loop-c
+invariant-loop-c l = record {
+  full : length l.seen ≡ 256;
+  asked : record { ids = l.ids; parts = l.parts; counts = l.counts; slots = l.slots } ≡ asked_of l.lent l.layout l.n (take l.c-index l.columns);
+  seen : Seen (take l.c-index l.columns) l.seen;
+}

@@ -1,7 +1,6 @@
 use mathlib.Core.Path.{◌≡◌}
-use Prim.Native.Nat.{◌≤◌}
 use Rattle.batch_description.specs.Filling.{filled_of}
 use Rattle.batch_description.proofs.describe.fill.Given as goal
 
 abbrev pub invariant-loop-i : goal.invariant-loop-i
-invariant-loop-i l = (l.i ≤ l.i-end) × (l.i-end ≡ l.h.count) × (l.out ≡ filled_of l.h l.columns l.order l.i)
+invariant-loop-i l = l.out ≡ filled_of l.h l.columns l.order l.i

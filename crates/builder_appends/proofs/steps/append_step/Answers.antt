@@ -1,32 +1,50 @@
--- A refusal changes nothing; an accepted plan can be written. Assumes nothing.
-use mathlib.Core.Path.{◌≡◌}
-use native.Mathlib.Omega.{arith}
-use Rattle.array_columns.specs.Buffers.{buffers_of, amounts_of}
-use Rattle.builder_appends.proofs.Stepping.{append_known, append_accepted}
+-- What the plan knows, and the append as planned. Assumes nothing.
+use mathlib.Core.Path.{◌≡◌, ap, ◌∙◌}
+use lib.ListN.{length}
+use Rattle.std.specs.Prelude.{IfOk}
+use Rattle.std.proofs.lemmas.Result.{IfOk-weaker}
+use Rattle.array_columns.specs.Buffers.{Buffers, amounts_of, held}
+use Rattle.array_columns.specs.Refusal.{number_of}
+use Rattle.builder_columns.specs.Columns.{given}
+use Rattle.builder_columns.specs.Planning.{PlanAnswer, plan_told}
+use Rattle.builder_appends.specs.Steps.{plan_for, planned, append_by}
+use Rattle.builder_appends.proofs.Asking.{open_searchable}
+use Rattle.builder_appends.proofs.Planned.{Planned, planned_known}
+use Rattle.builder_appends.proofs.Stepping.{planned_steppable}
 use Rattle.builder_appends.proofs.steps.append_step.Goals as goal
+use Rattle.builder_appends.proofs.steps.append_step.Goals.{After-plan-planned}
 
-pub store-requires : goal.store-requires
-store-requires c =
+-- the plan by the names that are lent
+plan_is : (c : After-plan-planned) → let a = c.args in plan_told c.plan-planned.result ≡ plan_for (number_of a.checked) a.h a.columns.now a.lent.now.names.now a.name.now a.kind
+plan_is c =
     let a = c.args in
-    let z : c.plan-p.result.refusal ≡ 0 = omega arith in
-    let m = buffers_of a.type_ids.now a.offsets.now a.values.now a.masks.now a.names.now in
-    (append_known a.checked a.h a.columns a.names.now a.name.now a.kind c.plan-p.result c.plan-p.ensures z (amounts_of m) c.requires).writable
+    let en : c.shared.inside.names.now ≡ a.lent.now.names.now = ap (λ (m : Buffers). m.names) (c.shared.view_is ∙ c.shared-shared.ensures) in
+    rw en at c.plan-planned.ensures
 
-pub accepted_step-requires : goal.accepted_step-requires
-accepted_step-requires c =
+known : (c : After-plan-planned) → IfOk c.plan-planned.result (λ p. Planned c.args.h c.args.columns.now p (length c.args.name.now) (amounts_of (held c.args.lent.now)))
+known c =
     let a = c.args in
-    let z : c.plan-p.result.refusal ≡ 0 = omega arith in
-    let m = buffers_of a.type_ids.now a.offsets.now a.values.now a.masks.now a.names.now in
-    let k = append_known a.checked a.h a.columns a.names.now a.name.now a.kind c.plan-p.result c.plan-p.ensures z (amounts_of m) c.requires in
-    (k.len, k.slots)
+    planned_known (number_of a.checked) a.h a.columns.now (amounts_of (held a.lent.now)) a.lent.now.names.now a.name.now a.kind c.plan-planned.result c.requires (plan_is c)
 
-pub returns : goal.returns
-returns c =
+pub plan-planned-requires : goal.plan-planned-requires
+plan-planned-requires c =
     let a = c.args in
-    let z : c.plan-p.result.refusal ≡ 0 = omega arith in
-    let m = buffers_of a.type_ids.now a.offsets.now a.values.now a.masks.now a.names.now in
-    let w = c.store.new in
-    let after = buffers_of w.type_ids w.offsets w.values w.masks w.names in
-    let r = append_accepted a.checked a.h a.columns a.name.now a.kind a.word a.present m c.plan-p.result c.plan-p.ensures c.accepted_step.result
-    z (amounts_of m) c.requires c.accepted_step.ensures after c.store.ensures in
-    record { steppable = r.0; names_after = r.1 }
+    let en : c.shared.inside.names.now ≡ a.lent.now.names.now = ap (λ (m : Buffers). m.names) (c.shared.view_is ∙ c.shared-shared.ensures) in
+    rw en (λ e. open_searchable a.h a.columns.now (amounts_of (held a.lent.now)) (c.requires e))
+
+pub carry_out-requires : goal.carry_out-requires
+carry_out-requires c =
+    let p = (goal.at.carry_out-requires c).After-plan-planned in
+    IfOk-weaker c.plan-planned.result _ _ (λ x k. (k.writable, k.len, k.slots)) (known p)
+
+pub returns-clause-steppable : goal.returns-clause-steppable
+returns-clause-steppable c =
+    let a = c.args in
+    planned_steppable a.h a.columns.now c.plan-planned.result (length a.name.now) (amounts_of (held a.lent.now)) _ _ _ _ _ c.carry_out.ensures.after
+    (known (goal.at.returns-clause-steppable c).After-plan-planned)
+
+pub returns-clause-after : goal.returns-clause-after
+unfolding append_by
+returns-clause-after c =
+    let a = c.args in
+    c.carry_out.ensures.after ∙ ap (λ (q : PlanAnswer). planned a.h q a.name.now (given a.value) (held a.lent.now)) (plan_is (goal.at.returns-clause-after c).After-plan-planned)

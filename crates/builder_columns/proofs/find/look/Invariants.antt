@@ -1,10 +1,9 @@
--- No column before k has the name. Assumes nothing.
+-- No column before has the name.
 use mathlib.Core.Path.{◌≡◌}
 use mathlib.Core.Option.{none}
-use Prim.Native.Nat.{◌≤◌}
 use Rattle.bitmap.specs.Lists.{first_of}
 use Rattle.builder_columns.specs.Columns.{has_name}
 use Rattle.builder_columns.proofs.find.look.Given as goal
 
-abbrev pub invariant-loop-k : goal.invariant-loop-k
-invariant-loop-k l = (l.k ≤ l.n) × (first_of l.k (has_name l.columns l.names l.name) ≡ none)
+abbrev pub invariant-loop-id : goal.invariant-loop-id
+invariant-loop-id l = first_of l.id (has_name l.columns l.names l.name) ≡ none

@@ -1,86 +1,86 @@
 -- What each way writes is the null mask. Assumes nothing.
-use mathlib.Core.Path.{◌≡◌, sym, ◌∙◌}
-use lib.ListN.{length}
-use Rattle.null_strategy.specs.Route.{is_stepped}
+use Rattle.std.proofs.Common.{rules, ◌≡◌, refl, sym, ap, ◌∙◌, arith, length}
 use Rattle.array_columns.specs.declared.Layout.TheVariants.{Sparse}
-use Rattle.mask_words.specs.declared.Taken.TheVariants.{WithNulls}
-use Rattle.logical_nulls.proofs.Masks.{not_sparse, short, nulls_alone, few_fields, valid_fields, named_on, steps_on, stepped, gathers_on, gathered}
-use borrow.Author.Rules.{rules}
+use Rattle.array_columns.specs.Buffers.{Buffers}
+use Rattle.union_array.specs.Slots.{in_use}
+use Rattle.mask_words.specs.Steps.{over_of}
+use Rattle.logical_nulls.proofs.Masks.{accepted, short, few_fields, nulls_alone, ids_long, room, fields_ready, stepped, named_on, gathers_on, gathered}
 use Rattle.logical_nulls.proofs.words.write_mask.Goals as goal
+
+pub shared_ref_as_front-columns : goal.shared_ref_as_front-columns
+shared_ref_as_front-columns c =
+    let a = c.args in
+    (accepted a.array.now a.fs.now a.route a.lent.now a.out.now c.requires).array.few
+
+pub slice_bounds-rest-count : goal.slice_bounds-rest-count
+slice_bounds-rest-count c =
+    let a = c.args in
+    let y = (accepted a.array.now a.fs.now a.route a.lent.now a.out.now c.requires).array in
+    let e = ap (λ (m : Buffers). m.ids) c.lent.view_is in
+    omega (arith, ap length e, y.ids)
+
+pub slice_bounds-rest-start : goal.slice_bounds-rest-start
+slice_bounds-rest-start c =
+    let a = c.args in
+    let y = (accepted a.array.now a.fs.now a.route a.lent.now a.out.now c.requires).array in
+    let e = ap (λ (m : Buffers). m.ids) c.lent.view_is in
+    omega (arith, ap length e, y.ids)
+
+pub slice_bounds-ids-end : goal.slice_bounds-ids-end
+slice_bounds-ids-end c =
+    let a = c.args in
+    let used : length (in_use a.array.now) ≡ a.array.now.fields = search rules in
+    sym (ids_long a.array.now a.fs.now a.route a.lent.now a.out.now c.requires used _ (ap (λ (m : Buffers). m.ids) c.lent.view_is))
 
 pub write_nulls-requires : goal.write_nulls-requires
 write_nulls-requires c =
-    let full : length c.args.array.columns ≡ 128 = search rules in
     let a = c.args in
-    (short a.array a.fs a.route a.ids.now a.offsets.now a.values.now a.masks.now a.out.now full c.requires, c.requires.lent)
+    (short a.array.now a.fs.now a.route a.lent.now a.out.now c.requires, c.requires.lent)
 
 pub returns-then-is_all_null : goal.returns-then-is_all_null
 returns-then-is_all_null c =
-    let full : length c.args.array.columns ≡ 128 = search rules in
     let a = c.args in
-    c.write_nulls.ensures ∙ nulls_alone a.array a.fs a.route a.ids.now a.offsets.now a.values.now a.masks.now a.out.now full c.requires (sym c.is_all_null.ensures ∙ c.if-is_all_null.true)
+    c.write_nulls.ensures ∙ nulls_alone a.array.now a.fs.now a.route a.lent.now a.out.now c.requires (sym c.is_all_null.ensures ∙ c.if-is_all_null.true)
 
-pub taken_fields-t-requires : goal.taken_fields-t-requires
-taken_fields-t-requires c =
-    let full : length c.args.array.columns ≡ 128 = search rules in
+pub write_stepped-requires : goal.write_stepped-requires
+write_stepped-requires c =
     let a = c.args in
+    let used : length (in_use a.array.now) ≡ a.array.now.fields = search rules in
+    let sparse : a.array.now.layout ≡ Sparse = search rules in
+    let e = ap (λ (m : Buffers). m.ids) c.lent.view_is in
     record {
-      count_bound = few_fields a.array a.fs a.route a.ids.now a.offsets.now a.values.now a.masks.now a.out.now full c.requires;
-      valid_ids = valid_fields a.array a.fs a.route a.ids.now a.offsets.now a.values.now a.masks.now a.out.now full c.requires;
+      room = room a.array.now a.fs.now a.route a.lent.now a.out.now c.requires used _ e;
+      ready = fields_ready a.array.now a.fs.now a.route a.lent.now a.out.now c.requires used _ e sparse;
     }
 
-pub write_words-requires : goal.write_words-requires
-write_words-requires c =
-    let full : length c.args.array.columns ≡ 128 = search rules in
-    let sparse : let a = c.args in a.array.layout ≡ Sparse = let a = c.args in
-    not_sparse a.array.layout (is_stepped a.route) (sym c.by_step.ensures ∙ c.if-by_step.true) in
+pub returns-then-is_stepped : goal.returns-then-is_stepped
+returns-then-is_stepped c =
     let a = c.args in
-    let t = c.taken_fields-t in
+    let used : length (in_use a.array.now) ≡ a.array.now.fields = search rules in
+    let sparse : a.array.now.layout ≡ Sparse = search rules in
+    let e = ap (λ (m : Buffers). m.ids) c.lent.view_is in
+    c.write_stepped.ensures ∙ stepped a.array.now a.fs.now a.route a.lent.now a.out.now c.requires used _ e sparse (over_of a.route)
+
+pub of-taken-requires : goal.of-taken-requires
+of-taken-requires c =
+    let a = c.args in few_fields a.array.now a.fs.now a.route a.lent.now a.out.now c.requires
+
+pub gather-requires : goal.gather-requires
+gather-requires c =
+    let a = c.args in
+    let used : length (in_use a.array.now) ≡ a.array.now.fields = search rules in
+    let e = ap (λ (m : Buffers). m.ids) c.lent.view_is in
+    let p = c.places.ensures ∙ c.of-taken.ensures in
     record {
-      len_bound = (short a.array a.fs a.route a.ids.now a.offsets.now a.values.now a.masks.now a.out.now full c.requires, c.requires.lent);
-      taken_ready = steps_on a.array a.fs a.route a.ids.now a.offsets.now a.values.now a.masks.now a.out.now full c.requires c.over_of-over.result t.result t.ensures sparse;
+      room = room a.array.now a.fs.now a.route a.lent.now a.out.now c.requires used _ e;
+      named = named_on a.array.now a.fs.now a.route a.lent.now a.out.now c.requires used _ e c.places.result.now p;
+      gathers = gathers_on a.array.now a.fs.now a.route a.lent.now a.out.now c.requires used _ e c.places.result.now p _ refl;
     }
 
-pub returns-then-by_step : goal.returns-then-by_step
-returns-then-by_step c =
-    let full : length c.args.array.columns ≡ 128 = search rules in
-    let sparse : let a = c.args in a.array.layout ≡ Sparse = let a = c.args in
-    not_sparse a.array.layout (is_stepped a.route) (sym c.by_step.ensures ∙ c.if-by_step.true) in
+pub returns-else-eq : goal.returns-else-eq
+returns-else-eq c =
     let a = c.args in
-    let t = c.taken_fields-t in
-    c.write_words.ensures ∙ stepped a.array a.fs a.route a.ids.now a.offsets.now a.values.now a.masks.now a.out.now full c.requires c.over_of-over.result t.result t.ensures sparse
-
-pub taken_fields-t-requires-2 : goal.taken_fields-t-requires-2
-taken_fields-t-requires-2 c =
-    let full : length c.args.array.columns ≡ 128 = search rules in
-    let a = c.args in
-    record {
-      count_bound = few_fields a.array a.fs a.route a.ids.now a.offsets.now a.values.now a.masks.now a.out.now full c.requires;
-      valid_ids = valid_fields a.array a.fs a.route a.ids.now a.offsets.now a.values.now a.masks.now a.out.now full c.requires;
-    }
-
-pub fill-table-requires : goal.fill-table-requires
-fill-table-requires c =
-    let full : length c.args.array.columns ≡ 128 = search rules in
-    let a = c.args in
-    let t = c.taken_fields-t-2 in
-    named_on a.array a.fs a.route a.ids.now a.offsets.now a.values.now a.masks.now a.out.now full c.requires WithNulls t.result t.ensures
-
-pub write_gathered-requires : goal.write_gathered-requires
-write_gathered-requires c =
-    let full : length c.args.array.columns ≡ 128 = search rules in
-    let a = c.args in
-    let t = c.taken_fields-t-2 in
-    let l = c.fill-table in
-    record {
-      len_bound = (short a.array a.fs a.route a.ids.now a.offsets.now a.values.now a.masks.now a.out.now full c.requires, c.requires.lent);
-      gathers = gathers_on a.array a.fs a.route a.ids.now a.offsets.now a.values.now a.masks.now a.out.now full c.requires t.result t.ensures l.result l.ensures;
-    }
-
-pub returns : goal.returns
-returns c =
-    let full : length c.args.array.columns ≡ 128 = search rules in
-    let a = c.args in
-    let t = c.taken_fields-t-2 in
-    let l = c.fill-table in
-    c.write_gathered.ensures ∙ gathered a.array a.fs a.route a.ids.now a.offsets.now a.values.now a.masks.now a.out.now full c.requires t.result t.ensures l.result l.ensures
+    let used : length (in_use a.array.now) ≡ a.array.now.fields = search rules in
+    let e = ap (λ (m : Buffers). m.ids) c.lent.view_is in
+    c.gather.ensures
+    ∙ gathered a.array.now a.fs.now a.route a.lent.now a.out.now c.requires used _ e c.places.result.now (c.places.ensures ∙ c.of-taken.ensures) _ refl

@@ -1,18 +1,8 @@
-use mathlib.Core.Path.{◌≡◌, ◌∙◌}
-use mir.Syntax.{w8}
-use mir.Val.{to_z, of_z}
-use mir.Facts.{to_z-of_z}
-use Rattle.array_columns.specs.Buffers.{Buffers, buffers_of}
-use Rattle.union_array.specs.ChildSlot.{child_slot_of}
-use Rattle.union_array.proofs.ChildSlots.{found_is, type_id_is}
-use borrow.Author.Rules.{rules}
+use Rattle.std.proofs.Common.{rules, w8, to_z-of_z}
+use Rattle.union_array.proofs.ChildSlots.{type_id_is}
 use Rattle.union_array.proofs.UnionArray.type_id.Goals as goal
 
 pub returns : goal.returns
 returns c =
-    let lent : Buffers = let a = c.args in buffers_of a.type_ids.now a.offsets.now a.values.now a.masks.now a.names.now in
-    let found : c.slot_in_child-s.result ≡ child_slot_of c.args.self lent c.args.i = let x = c.id_at-id.result in
-    found_is c.args.self lent c.args.i (to_z w8 (of_z w8 x)) c.look-l.result c.slot_in_child-s.result
-    (to_z-of_z {w = w8} {z = x} (record { sfits = c.id_at-id.type_inv }) ∙ c.id_at-id.ensures) c.look-l.ensures (rw c.head_of.ensures at c.slot_in_child-s.ensures) in
-    let t = c.slot_in_child-s.result in
-    rw (to_z-of_z {w = w8} {z = t.id} (record { sfits = search rules })) (type_id_is c.args.self lent c.args.i t found)
+    rw (to_z-of_z {w = w8} {z = c.in_ok-s.s.id} (record { sfits = search rules }))
+    (type_id_is c.args.self c.args.lent.now c.args.i c.in_ok-s.s (rw c.in_ok-s.was at c.child_slot.ensures))

@@ -1,16 +1,5 @@
-use mathlib.Core.Path.{◌≡◌, ◌∙◌}
-use mir.Syntax.{w8}
-use mir.Val.{to_z, of_z}
-use mir.Facts.{to_z-of_z}
-use Rattle.array_columns.specs.Buffers.{Buffers, buffers_of}
-use Rattle.union_array.specs.ChildSlot.{child_slot_of}
-use Rattle.union_array.proofs.ChildSlots.{found_is, value_offset_is}
+use Rattle.union_array.proofs.ChildSlots.{value_offset_is}
 use Rattle.union_array.proofs.UnionArray.value_offset.Goals as goal
 
 pub returns : goal.returns
-returns c =
-    let lent : Buffers = let a = c.args in buffers_of a.type_ids.now a.offsets.now a.values.now a.masks.now a.names.now in
-    let found : c.slot_in_child-s.result ≡ child_slot_of c.args.self lent c.args.i = let x = c.id_at-id.result in
-    found_is c.args.self lent c.args.i (to_z w8 (of_z w8 x)) c.look-l.result c.slot_in_child-s.result
-    (to_z-of_z {w = w8} {z = x} (record { sfits = c.id_at-id.type_inv }) ∙ c.id_at-id.ensures) c.look-l.ensures (rw c.head_of.ensures at c.slot_in_child-s.ensures) in
-    value_offset_is c.args.self lent c.args.i c.slot_in_child-s.result found
+returns c = value_offset_is c.args.self c.args.lent.now c.args.i c.in_ok-s.s (rw c.in_ok-s.was at c.child_slot.ensures)

@@ -1,26 +1,16 @@
-use mathlib.Core.Path.{◌≡◌, sym, ◌∙◌}
-use Rattle.array_columns.specs.Buffers.{Buffers, buffers_of}
+use Rattle.std.proofs.Common.{◌≡◌, ◌∙◌}
 use Rattle.union_array.specs.Questions.{asked}
 use Rattle.union_array.proofs.Checked.{valued}
-use Rattle.union_array.proofs.Runs.{run_refused, run_is}
+use Rattle.union_array.proofs.Runs.{run_is}
 use Rattle.union_array.proofs.UnionArray.values.Goals as goal
-
-pub returns-then-r-ne0 : goal.returns-then-r-ne0
-returns-then-r-ne0 c =
-    let lent : Buffers = let p = c.args in buffers_of p.type_ids.now p.offsets.now p.values.now p.masks.now p.names.now in
-    let p = c.args in
-    run_refused p.self lent p.first p.n p.ids.now p.missing.now p.bits.now c.ask-r.result c.ask-r.ensures c.if-r-ne0.true
 
 pub run-requires : goal.run-requires
 run-requires c =
-    let lent : Buffers = let p = c.args in buffers_of p.type_ids.now p.offsets.now p.values.now p.masks.now p.names.now in
-    let accepts : asked c.args.self lent ≡ 0 = sym c.ask-r.ensures ∙ c.if-r-ne0.false in
-    rw c.head_of.ensures (valued c.args.self lent accepts)
+    let e : 0 ≡ asked c.args.self c.args.lent.now = rw c.in_ok-ask.was at c.ask.ensures in
+    rw c.head.ensures (valued c.args.self c.args.lent.now e)
 
 pub returns : goal.returns
 returns c =
-    let lent : Buffers = let p = c.args in buffers_of p.type_ids.now p.offsets.now p.values.now p.masks.now p.names.now in
-    let accepts : asked c.args.self lent ≡ 0 = sym c.ask-r.ensures ∙ c.if-r-ne0.false in
-    let p = c.args in
-    rw c.head_of.ensures at c.run.ensures
-    ∙ run_is p.self lent p.first p.n p.ids.now p.missing.now p.bits.now accepts
+    let a = c.args in
+    let e : 0 ≡ asked a.self a.lent.now = rw c.in_ok-ask.was at c.ask.ensures in
+    rw c.head.ensures at c.run.ensures ∙ run_is a.self a.lent.now a.first a.n a.ids.now a.missing.now a.bits.now e

@@ -1,29 +1,26 @@
--- The answer of an open builder, handed back empty. Assumes nothing.
-use mathlib.Core.Path.{sym, ap, ◌∙◌}
-use Rattle.array_columns.specs.Buffers.{buffers_of, amounts_of}
+-- An accepted finish empties the builder, a refused one hands it back. Assumes nothing.
+use mathlib.Core.Path.{◌≡◌, sym, ◌∙◌}
+use Rattle.array_columns.specs.Buffers.{amounts_of}
+use Rattle.array_columns.specs.Refusal.{number_of}
 use Rattle.union_builder.specs.Builder.{open_checked}
 use Rattle.union_builder.proofs.Asking.{open_checked_lem}
-use Rattle.union_builder.proofs.Finishing.{describable, finish_refused, finish_accepted}
+use Rattle.union_builder.proofs.Finishing.{describable, finish_yes, finish_no}
 use Rattle.union_builder.proofs.UnionBuilder.finish.Goals as goal
 
-pub described-out-requires : goal.described-out-requires
-described-out-requires c =
+pub described-requires : goal.described-requires
+described-requires c =
     let a = c.args in
-    let m = buffers_of a.type_ids.now a.offsets.now a.values.now a.masks.now a.names.now in
-    λ e. describable a.self (amounts_of m) (open_checked_lem a.self (amounts_of m) (sym (c.open_checked-refusal.ensures ∙ ap (open_checked a.self) c.amounts.ensures) ∙ e))
+    let q : number_of c.check_open-checked.result ≡ open_checked a.self (amounts_of a.lent.now) = rw c.amounts.ensures at c.check_open-checked.ensures in
+    λ e. describable a.self (amounts_of a.lent.now) (open_checked_lem a.self (amounts_of a.lent.now) (sym q ∙ e))
 
-pub returns-then-out-eq0 : goal.returns-then-out-eq0
-returns-then-out-eq0 c =
-    let n = c.open_checked-refusal in
-    let l = c.amounts in
+pub returns-in-Ok : goal.returns-in-Ok
+returns-in-Ok c =
     let a = c.args in
-    let m = buffers_of a.type_ids.now a.offsets.now a.values.now a.masks.now a.names.now in
-    finish_accepted a.self m c.described-out.result n.result c.described-out.ensures (n.ensures ∙ ap (open_checked a.self) l.ensures) c.emptied-out.result c.if-out-eq0.true c.emptied-out.ensures
+    let q : number_of c.check_open-checked.result ≡ open_checked a.self (amounts_of a.lent.now) = rw c.amounts.ensures at c.check_open-checked.ensures in
+    rw c.empty.ensures (finish_yes a.self a.lent.now (number_of c.check_open-checked.result) c.in-Ok.array c.in-Ok.ensures q)
 
-pub returns-else-out-eq0 : goal.returns-else-out-eq0
-returns-else-out-eq0 c =
-    let n = c.open_checked-refusal in
-    let l = c.amounts in
+pub returns-in-Err : goal.returns-in-Err
+returns-in-Err c =
     let a = c.args in
-    let m = buffers_of a.type_ids.now a.offsets.now a.values.now a.masks.now a.names.now in
-    finish_refused a.self m c.described-out.result n.result c.described-out.ensures (n.ensures ∙ ap (open_checked a.self) l.ensures) c.if-out-eq0.false
+    let q : number_of c.check_open-checked.result ≡ open_checked a.self (amounts_of a.lent.now) = rw c.amounts.ensures at c.check_open-checked.ensures in
+    finish_no a.self a.lent.now (number_of c.check_open-checked.result) c.in-Err.refusal c.in-Err.ensures q

@@ -1,6 +1,7 @@
 -- What 15 and 16 accept can be described. Assumes nothing.
-use mathlib.Core.Path.{sym, ap, ◌∙◌}
-use Rattle.array_columns.specs.Buffers.{buffers_of, amounts_of}
+use mathlib.Core.Path.{◌≡◌, sym, ◌∙◌}
+use Rattle.array_columns.specs.Buffers.{amounts_of}
+use Rattle.array_columns.specs.Refusal.{number_of}
 use Rattle.union_builder.specs.Builder.{builder_checked}
 use Rattle.union_builder.proofs.Finishing.{describable, cloned_is}
 use Rattle.union_builder.proofs.UnionBuilder.finish_cloned.Goals as goal
@@ -8,13 +9,11 @@ use Rattle.union_builder.proofs.UnionBuilder.finish_cloned.Goals as goal
 pub described-requires : goal.described-requires
 described-requires c =
     let a = c.args in
-    let m = buffers_of a.type_ids.now a.offsets.now a.values.now a.masks.now a.names.now in
-    λ e. describable a.self (amounts_of m) (sym (c.builder_checked-refusal.ensures ∙ ap (builder_checked a.self) c.amounts.ensures) ∙ e)
+    let q : number_of c.check-checked.result ≡ builder_checked a.self (amounts_of a.lent.now) = rw c.amounts.ensures at c.check-checked.ensures in
+    λ e. describable a.self (amounts_of a.lent.now) (sym q ∙ e)
 
 pub returns : goal.returns
 returns c =
-    let n = c.builder_checked-refusal in
-    let l = c.amounts in
     let a = c.args in
-    let m = buffers_of a.type_ids.now a.offsets.now a.values.now a.masks.now a.names.now in
-    cloned_is a.self m c.described.result n.result c.described.ensures (n.ensures ∙ ap (builder_checked a.self) l.ensures)
+    let q : number_of c.check-checked.result ≡ builder_checked a.self (amounts_of a.lent.now) = rw c.amounts.ensures at c.check-checked.ensures in
+    cloned_is a.self a.lent.now (number_of c.check-checked.result) _ c.described.ensures q

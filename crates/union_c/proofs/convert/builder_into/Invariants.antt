@@ -1,9 +1,0 @@
-use mathlib.Core.Path.{◌≡◌}
-use Prim.Native.Nat.{◌≤◌}
-use lib.ListN.{length}
-use Rattle.union_c.specs.Builders.{builder_column_to}
-use Rattle.union_c.specs.Numbers.{entries_used, first_by}
-use Rattle.union_c.proofs.convert.builder_into.Given as goal
-
-abbrev pub invariant-loop-k : goal.invariant-loop-k
-invariant-loop-k l = (l.k ≤ l.n) × (l.n ≤ 128) × (l.n ≡ entries_used l.b.count) × (length l.initial.columns ≡ 128) × (l.columns ≡ first_by l.k builder_column_to l.b.columns l.initial.columns)
