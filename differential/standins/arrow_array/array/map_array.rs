@@ -1,0 +1,3 @@
+//! Stands for array/map_array.rs of arrow-array. No union here has such a child: only the parts are kept.
+
+parts_array!(MapArray [] []);
