@@ -4,7 +4,7 @@ ghost use Rattle.array_columns.specs.Buffers.{amounts_of, held};
 
 use crate::{Amounts, Buffers, BuffersMut};
 
-impl<'a> Buffers<'a> {
+impl<'i, 'a> Buffers<'i, 'a> {
     // How much is lent.
     pub fn amounts(&self) -> Amounts
         ensures { result ≡ amounts_of self.now }
@@ -21,7 +21,7 @@ impl<'a> Buffers<'a> {
 
 impl<'a> BuffersMut<'a> {
     // The same memory, to read.
-    pub fn shared(&self) -> Buffers<'_>
+    pub fn shared(&self) -> Buffers<'_, '_>
         ensures { result ≡ held self.now }
     {
         Buffers {

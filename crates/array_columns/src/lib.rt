@@ -63,17 +63,18 @@ pub enum Refusal {
     LengthMismatch = 129,
 }
 
-// Lent memory, to read: type ids, offsets, value words, mask words, name bytes.
+// Lent memory, to read: type ids, offsets, value words, mask words, name bytes. The type ids have a lifetime of their own, since a part
+// of them is shown to the caller.
 #[derive(Drop)]
-pub struct Buffers<'a> {
-    pub type_ids: &'a [i8],
+pub struct Buffers<'i, 'a> {
+    pub type_ids: &'i [i8],
     pub offsets: &'a [i32],
     pub values: &'a [u64],
     pub masks: &'a [u64],
     pub names: &'a [u8],
 }
 
-impl<'a> Model for Buffers<'a> {
+impl<'i, 'a> Model for Buffers<'i, 'a> {
     ghost Value = { Buffers };
 
     ghost view = { λ b. record { ids = b.type_ids.now; offsets = b.offsets.now; values = b.values.now; masks = b.masks.now; names = b.names.now } };

@@ -1,4 +1,4 @@
--- A slot's child and its slot in it, by the child found and what was read: each way out. Assumes nothing.
+-- A slot's child and its slot in it, by what was looked up and read: each way out. Assumes nothing.
 use mathlib.Core.Path.{◌≡◌, refl}
 use mathlib.Core.Bool.{true, false, false≢true}
 use mathlib.Core.Option.{Option, none, some}
@@ -10,50 +10,49 @@ use Rattle.array_columns.specs.Refusal.{◌then◌, if_yes}
 use Rattle.array_columns.specs.Slots.{is_some}
 use Rattle.array_columns.specs.Questions.{within}
 use Rattle.array_columns.specs.Lookup.{or_none}
-use Rattle.array_slots.specs.ChildSlot.{ChildSlot, no_child_slot, settled_no, settled}
+use Rattle.array_slots.specs.ChildSlot.{ChildSlot, no_child_slot, Looked, settled_no, settled}
+
+-- of an accepted array, with the child that was found
+abbrev pub accepted_look : Option Column → Looked
+accepted_look column = record { column = column; refusal = 0 }
 
 module _ (column : Option Column) (layout : Layout) (n i : ℕ) (id offset : ℤ) where
-  -- the whole answer by the number that the lookup gave: 0, and it is `settled`; another, and it is that number with zeros
+  -- the whole answer by the number that the lookup gave: 0, and it is that of the slot; another, and it is that number with zeros
   abbrev pub settled_after : ℕ → ChildSlot
-  settled_after r = record {
-    column = if_yes (r then settled_no column layout n i offset) (or_none column) no_column;
-    slot = if_yes (r then settled_no column layout n i offset) (by_layout layout i (nat_abs offset)) 0;
-    refusal = r then settled_no column layout n i offset;
-    id = if_yes (r then settled_no column layout n i offset) id (pos 0);
-  }
+  settled_after r = settled (record { column = column; refusal = r }) layout n i id offset
 
-  pub settled_accepted : settled_after 0 ≡ settled column layout n i id offset
-  unfolding settled
+  pub settled_accepted : settled_after 0 ≡ settled (accepted_look column) layout n i id offset
   settled_accepted = refl
 
   pub settled_first : (r : ℕ) → (r ≡ 0 → ⊥) → no_child_slot r ≡ settled_after r
+  unfolding settled
   settled_first zero h = absurd (h refl)
   settled_first (suc r) h = refl
 
   -- the slot is refused: by 10, then 7, then 8
-  pub settled_10 : n ≤ i → no_child_slot 10 ≡ settled column layout n i id offset
+  pub settled_10 : n ≤ i → no_child_slot 10 ≡ settled (accepted_look column) layout n i id offset
   unfolding settled
   settled_10 h = rw (le-ltb i n h)
 
-  pub settled_7 : i < n → is_some column ≡ false → no_child_slot 7 ≡ settled column layout n i id offset
+  pub settled_7 : i < n → is_some column ≡ false → no_child_slot 7 ≡ settled (accepted_look column) layout n i id offset
   unfolding settled
   settled_7 h f = rw (lt-ltb i n h, f)
 
 -- the slot is refused by 8, or it is accepted: slot i in sparse, its offset's in dense
 module _ (layout : Layout) (n i : ℕ) (id offset : ℤ) where
   pub settled_8 : (column : Option Column) → i < n → is_some column ≡ true → layout ≡ Dense → within offset (or_none column).slots ≡ false
-      → no_child_slot 8 ≡ settled column layout n i id offset
+      → no_child_slot 8 ≡ settled (accepted_look column) layout n i id offset
   unfolding settled
   settled_8 none h f d w = absurd (false≢true f)
   settled_8 (some c) h f d w = rw (lt-ltb i n h, d, w)
 
   pub settled_sparse : (column : Option Column) → i < n → is_some column ≡ true → layout ≡ Sparse
-      → ◌≡◌ {A = ChildSlot} (record { column = or_none column; slot = i; refusal = 0; id = id }) (settled column layout n i id offset)
+      → ◌≡◌ {A = ChildSlot} (record { column = or_none column; slot = i; refusal = 0; id = id }) (settled (accepted_look column) layout n i id offset)
   unfolding settled
   settled_sparse column h f d = rw (lt-ltb i n h, f, d)
 
   pub settled_dense : (column : Option Column) → i < n → is_some column ≡ true → layout ≡ Dense → within offset (or_none column).slots ≡ true
-      → ◌≡◌ {A = ChildSlot} (record { column = or_none column; slot = nat_abs offset; refusal = 0; id = id }) (settled column layout n i id offset)
+      → ◌≡◌ {A = ChildSlot} (record { column = or_none column; slot = nat_abs offset; refusal = 0; id = id }) (settled (accepted_look column) layout n i id offset)
   unfolding settled
   settled_dense none h f d w = absurd (false≢true f)
   settled_dense (some c) h f d w = rw (lt-ltb i n h, d, w)

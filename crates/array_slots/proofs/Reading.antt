@@ -25,7 +25,7 @@ use Rattle.array_columns.proofs.Accepted.{some_is, within_abs}
 use Rattle.array_columns.proofs.Columns.{all_found}
 use Rattle.array_slots.proofs.Parts.{part, part_few, part_table, own_id, passed_id, id_is}
 
-within_sign : (z : ℤ) (n : ℕ) → within z n ≡ true → T (non_neg z)
+pub within_sign : (z : ℤ) (n : ℕ) → within z n ≡ true → T (non_neg z)
 within_sign (pos k) n e = tt
 within_sign (negsuc k) n e = absurd (false≢true e)
 

@@ -115,7 +115,7 @@ module _ (h : Head) (columns : List Column) (m : Buffers) (first n : ℕ) (ids :
   refused zero l e = absurd (omega arith)
   refused (suc q) l e = rw (← e)
 
-  number_ten : leb (first + n) h.count ≡ false → 10 ≡ number
+  pub number_ten : leb (first + n) h.count ≡ false → 10 ≡ number
   unfolding run_no
   number_ten e = rw e
 
@@ -123,7 +123,7 @@ module _ (h : Head) (columns : List Column) (m : Buffers) (first n : ℕ) (ids :
   run_ten e = refused 10 (omega arith) (number_ten e)
 
   module _ (e : leb (first + n) h.count ≡ true) where
-    number_slot : (q : ℕ) → 0 < q → q ≡ first_refusal n (λ k. slot_no h columns m.ids m.offsets (first + k)) → q ≡ number
+    pub number_slot : (q : ℕ) → 0 < q → q ≡ first_refusal n (λ k. slot_no h columns m.ids m.offsets (first + k)) → q ≡ number
     unfolding run_no
     number_slot q l f = rw (e, ← f) (sym (then_left q _ (λ z. omega arith)))
 
@@ -132,7 +132,7 @@ module _ (h : Head) (columns : List Column) (m : Buffers) (first n : ℕ) (ids :
     run_slot r f = refused (refusal_number r) (refusal_positive r) (number_slot (refusal_number r) (refusal_positive r) f)
 
     module _ (f : 0 ≡ first_refusal n (λ k. slot_no h columns m.ids m.offsets (first + k))) where
-      number_room : has_room n ids missing bits ≡ false → bad_length ≡ number
+      pub number_room : has_room n ids missing bits ≡ false → bad_length ≡ number
       unfolding run_no
       number_room r = rw (e, ← f, r)
 

@@ -1,8 +1,7 @@
 // A slot's child and its slot in it, once its type id was read and looked up.
 ghost use Rattle.std.specs.Prelude.{◌≡◌, ◌+◌, get_or};
-ghost use Rattle.array_columns.specs.Pass.{column_told};
 ghost use Rattle.array_slots.specs.Slots.{offset_at};
-ghost use Rattle.array_slots.specs.ChildSlot.{child_slot_told, settled};
+ghost use Rattle.array_slots.specs.ChildSlot.{child_slot_told, looked_told, settled};
 
 use crate::ChildSlot;
 use array_columns::slots::is_within;
@@ -18,17 +17,18 @@ pub fn item_at<T: Copy>(items: &[T], start: usize, i: usize, rest: T) -> T
     }
 }
 
-// Slot i's child, its slot in it and its type id, once that was read and looked up.
+// Slot i's child, its slot in it and its type id, once that was read and looked up. A refused look is the answer.
 #[tactic(auto, unfolding(crate::specs::ChildSlot::settled))]
 pub fn slot_in_child(
-    column: Option<Column>,
+    looked: Result<Option<Column>, Refusal>,
     h: Head,
     i: usize,
     id: i8,
     offsets: &[i32],
 ) -> Result<ChildSlot, Refusal>
-    ensures { child_slot_told result ≡ settled (column_told column) h.layout h.count i id (offset_at h offsets.now i) }
+    ensures { child_slot_told result ≡ settled (looked_told looked) h.layout h.count i id (offset_at h offsets.now i) }
 {
+    let column = looked?;
     if h.count <= i {
         return Err(Refusal::IndexRange);
     }

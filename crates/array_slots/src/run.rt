@@ -31,7 +31,7 @@ struct Slots<'a> {
     columns: &'a [Column; 128],
     // The places of the columns in use, by their ids.
     places: [u8; 256],
-    lent: &'a Buffers<'a>,
+    lent: &'a Buffers<'a, 'a>,
     first: usize,
     n: usize,
     ghost valued: { Valued head columns.now lent.now },

@@ -14,7 +14,7 @@ pub struct Mask<'a> {
     pub bit: usize,
     pub len: usize,
     pub ghost inside: { 64 * word + bit + len ≤ 64 * length words.now },
-    pub ghost short: { bit + len < 2 ^ 64 },
+    pub ghost short: { bit + len ≤ 2 ^ 64 },
 }
 
 impl Mask<'_> {

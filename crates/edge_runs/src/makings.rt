@@ -51,7 +51,7 @@ const SHORTS: [Option<Buffer>; 6] = [
 ];
 
 // What a builder of 64 slots and 2 columns needs, but for what it is short of.
-fn needed<'a>(lent: &Buffers<'a>, of: Option<Buffer>) -> Buffers<'a> {
+fn needed<'a>(lent: &Buffers<'a, 'a>, of: Option<Buffer>) -> Buffers<'a, 'a> {
     Buffers {
         type_ids: first(lent.type_ids, 64, of == Some(Buffer::TypeIds)),
         offsets: first(lent.offsets, 64, of == Some(Buffer::Offsets)),

@@ -23,7 +23,7 @@ impl Memory {
         }
     }
 
-    pub fn lent(&self) -> Buffers<'_> {
+    pub fn lent(&self) -> Buffers<'_, '_> {
         Buffers {
             type_ids: &self.type_ids,
             offsets: &self.offsets,

@@ -1,4 +1,5 @@
 -- The laws that the proofs of mask_words, and of the crates above, cite.
+pub mod Padded
 pub mod Selecting
 pub mod ValidIds
 pub mod StepWords

@@ -85,7 +85,7 @@ module _ (words : Buffers) (ids : List ℤ) (k : ℕ) where
   fully_is l = present_all l
 
   -- by what it takes up
-  step_is : (over : Taken) (l : List Column) → (over ≡ All → 1 ≤ length l) → step_word over (fields_of l) (run_of ids k) ≡ word (step_at over l words ids)
+  pub step_is : (over : Taken) (l : List Column) → (over ≡ All → 1 ≤ length l) → step_word over (fields_of l) (run_of ids k) ≡ word (step_at over l words ids)
   step_is All l some = one_is l (some refl)
   step_is WithNulls l some = without_is l
   step_is NotFull l some = fully_is l

@@ -85,30 +85,41 @@ unfolding taken_places
 places_all k [] = refl
 places_all k (f ∷ l) = ap suc (places_all (suc k) l)
 
--- ---- what the steps need of what is taken up, of a list of columns by their states
+-- ---- what the steps need of what is taken up
 
+module _ (over : Taken) (l : List State) (places : List ℕ) (k : places ≡ taken_places over 0 l) where
+  -- what holds of each state's place holds of those taken up
+  each : (P : ℕ → Type 0) → ((i : ℕ) → i < length l → P i) → (q : ℕ) → q < length places → P (get_or places q 0)
+  each P h =
+      subst (λ (m : List ℕ). (q : ℕ) → q < length m → P (get_or m q 0)) (sym k)
+      (places_each over P 0 l (λ i b. let z : i ≡ 0 + i = omega arith in subst P z (h i b)))
+
+  module _ (cs : List Column) where
+    -- and so of each column
+    each_column : (P : Column → Type 0) → ((i : ℕ) → i < length l → P (get_or cs i no_column)) → (q : ℕ) → q < length places → P (get_or (columns_at cs places) q no_column)
+    each_column P h q b = subst P (sym (at_place cs places q b)) (each (λ p. P (get_or cs p no_column)) h q b)
+
+    -- if the states are those of the first columns, and these have valid ids
+    pub named_by : length l ≤ length cs → ((i : ℕ) → i < length l → valid_id (get_or cs i no_column).id ≡ true) → TakenNamed cs places
+    named_by few valid = record {
+      placed = each (λ p. p < length cs) (λ i b. omega arith);
+      valid = λ q b. each_column (λ c. valid_id c.id ≡ true) valid q (omega (arith, length-map places (λ p. get_or cs p no_column)));
+    }
+
+-- of a list of columns by their states
 module _ (over : Taken) (cs : List Column) (words : Buffers) (places : List ℕ) (k : places ≡ taken_places over 0 (map (state_of words) cs)) where
   pub columns_taken : columns_at cs places ≡ taken_of over words cs
   columns_taken = ap (columns_at cs) k ∙ places_are over words (λ p. get_or cs p no_column) 0 cs (λ i b. let z : 0 + i ≡ i = omega arith in ap (λ (p : ℕ). get_or cs p no_column) z)
 
-  -- what holds of each place in the list holds of those taken up
-  each : (P : ℕ → Type 0) → ((i : ℕ) → i < length cs → P i) → (q : ℕ) → q < length places → P (get_or places q 0)
-  each P h =
-      subst (λ (l : List ℕ). (q : ℕ) → q < length l → P (get_or l q 0)) (sym k)
-      (places_each over P 0 (map (state_of words) cs) (λ i b. let z : i ≡ 0 + i = omega arith in subst P z (h i (omega (arith, length-map cs (state_of words))))))
-
-  -- and so of each column
-  each_column : (P : Column → Type 0) → ((i : ℕ) → i < length cs → P (get_or cs i no_column)) → (q : ℕ) → q < length places → P (get_or (columns_at cs places) q no_column)
-  each_column P h q b = subst P (sym (at_place cs places q b)) (each (λ p. P (get_or cs p no_column)) h q b)
+  below : (i : ℕ) → i < length (map (state_of words) cs) → i < length cs
+  below i b = omega (arith, length-map cs (state_of words))
 
   pub taken_named : ValidIds cs → TakenNamed cs places
-  taken_named valid = record {
-    placed = each (λ p. p < length cs) (λ i b. b);
-    valid = λ q b. each_column (λ c. valid_id c.id ≡ true) valid q (omega (arith, length-map places (λ p. get_or cs p no_column)));
-  }
+  taken_named valid = named_by over (map (state_of words) cs) places k cs (omega (arith, length-map cs (state_of words))) (λ i b. valid i (below i b))
 
   pub taken_ready : (len : ℕ) → ValidIds cs → ((q : ℕ) → q < length cs → Held words len (get_or cs q no_column)) → TakenReady cs places words len
-  taken_ready len valid held = record { taken = taken_named valid; held = each_column (Held words len) held }
+  taken_ready len valid held =
+      record { taken = taken_named valid; held = each_column over (map (state_of words) cs) places k cs (Held words len) (λ i b. held i (below i b)) }
 
   -- SkipOne has a field
   pub taken_some : over ≡ All → 1 ≤ length cs → 1 ≤ length places

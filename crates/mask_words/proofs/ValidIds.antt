@@ -36,6 +36,13 @@ valid_casts (pos n) e =
     subst (λ (x : ℤ). T (non_neg x) × Fits w64 (nat_abs x)) (sym (valid_cast (pos n) e)) (tt, omega arith)
 valid_casts (negsuc n) e = absurd (false≢true e)
 
+-- and as a byte
+pub valid_byte : (z : ℤ) → valid_id z ≡ true → T (non_neg (to_z w8 (of_z w8 z))) × Fits w8 (nat_abs (to_z w8 (of_z w8 z)))
+valid_byte (pos n) e =
+    let l = ltb-true n 128 e in
+    subst (λ (x : ℤ). T (non_neg x) × Fits w8 (nat_abs x)) (sym (valid_cast (pos n) e)) (tt, omega arith)
+valid_byte (negsuc n) e = absurd (false≢true e)
+
 -- the selection mask of a valid id, looked up
 pub valid_word : (ids : List ℤ) (s n : ℕ) (z : ℤ) → valid_id z ≡ true → get_or (selections_of ids s n) (nat_abs (to_z w8 (of_z w8 z))) 0 ≡ selection_of ids s n z
 valid_word ids s n z v =

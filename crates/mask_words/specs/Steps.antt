@@ -1,5 +1,5 @@
 -- The bit of slot i by each strategy that selects by type ids, and words of such bits. The ids are those of the slots, in order.
-use Rattle.std.specs.Prelude.{◌≡◌, Bool, true, false, cond, not, ◌&&◌, ◌||◌, List, [], ◌∷◌, map, ℕ, zero, suc, ◌+◌, ◌-◌, ◌*◌, ◌%◌, ◌^◌, ◌≤◌, ◌<◌, T, ltb, ℤ, pos, get_or, drop, length}
+use Rattle.std.specs.Prelude.{◌≡◌, Bool, true, false, cond, not, ◌&&◌, ◌||◌, List, [], ◌∷◌, ◌++◌, map, ℕ, zero, suc, ◌+◌, ◌-◌, ◌*◌, ◌%◌, ◌^◌, ◌≤◌, ◌<◌, T, ltb, ℤ, pos, nat_abs, get_or, drop, replicate, length}
 use Rattle.std.specs.Int.Bits.{bit_and, bit_or}
 use Rattle.std.specs.Int.Signed.{non_neg}
 use Rattle.bitmap.specs.Lists.{retable}
@@ -131,9 +131,25 @@ step_word NotFull fields ids = skip_fully_word fields ids
 
 -- ---- what the functions need and give
 
+-- 128 zeros
+unfoldable pub zeros : List ℕ
+zeros = replicate 128 0
+
+-- a list of at most 128 numbers, and zeros after them, up to 128
+abbrev pub padded : List ℕ → List ℕ
+padded l = l ++ drop (length l) zeros
+
 -- the columns at some places of a list
 abbrev pub columns_at : List Column → List ℕ → List Column
 columns_at cs places = map (λ p. get_or cs p no_column) places
+
+-- the id of the column at a place
+abbrev pub id_in : List Column → ℕ → ℕ
+id_in cs p = nat_abs (get_or cs p no_column).id
+
+-- the ids of the columns at some places, and zeros after them
+abbrev pub taken_ids : List Column → List ℕ → List ℕ
+taken_ids cs places = padded (map (id_in cs) places)
 
 -- the places, counted from k on, of the states that are taken up
 unfoldable pub taken_places : Taken → ℕ → List State → List ℕ

@@ -15,21 +15,31 @@ pub enum Taken {
     NotFull,
 }
 
-// The places of those fields in the column list, in order: the first `count` entries. An array, since there is no heap.
-#[derive(Drop)]
+// The places of those fields in the column list, in order: the first `count` entries. By the invariant the others are zeros.
+// An array, since there is no heap.
+#[derive(Clone, Copy)]
 pub struct TakenFields {
     places: [u8; 128],
     count: usize,
 }
 
 impl Model for TakenFields {
-    ghost use Rattle.std.specs.Prelude.{List, ℕ, ◌≤◌, take};
+    ghost use Rattle.std.specs.Prelude.{◌≡◌, List, ℕ, ◌≤◌, take, length};
+    ghost use Rattle.std.proofs.Common.{sym, subst, length-take-le};
+    ghost use Rattle.mask_words.specs.Steps.{padded};
 
     ghost Value = { List ℕ };
 
     ghost view = { λ t. take t.count t.places };
 
-    ghost invariant = { λ t. t.count ≤ 128 };
+    ghost invariant = { λ t. (t.count ≤ 128) × (length t.places ≡ 128) × (t.places ≡ padded (take t.count t.places)) };
+
+    ghost inverse = { λ l. record { places = padded l; count = length l } };
+
+    ghost inverse_ok = { λ t h i. record {
+      places = sym h.2 i;
+      count = length-take-le t.count t.places (subst (λ (n : ℕ). t.count ≤ n) (sym h.1) h.0) i;
+    } };
 }
 
 // A field's id, and a presence chunk of its child.

@@ -1,9 +1,10 @@
 // The fields that a strategy takes up.
 ghost use Rattle.std.specs.Prelude.{◌≡◌, ◌∷◌, [], ◌++◌, ◌<◌, ◌≤◌, length};
 ghost use Rattle.null_strategy.specs.Fields.{in_list};
-ghost use Rattle.mask_words.specs.Steps.{over_of, takes, taken_places};
+ghost use Rattle.mask_words.specs.Steps.{over_of, takes, taken_places, taken_ids, TakenNamed};
 
 use crate::{Taken, TakenFields};
+use array_columns::Column;
 use null_strategy::{Fields, Route, State};
 
 // What the step of a route takes up.
@@ -64,5 +65,17 @@ impl TakenFields {
         ensures { result.now ≡ self.now }
     {
         &self.places[..self.count]
+    }
+
+    // The ids of the columns there, and zeros after them.
+    pub fn ids(&self, columns: &[Column]) -> [u8; 128]
+        requires { TakenNamed columns.now self.now }
+        ensures { result ≡ taken_ids columns.now self.now }
+    {
+        let mut ids = [0u8; 128];
+        for (q, place) in self.places[..self.count].iter().enumerate() {
+            ids[q] = columns[*place as usize].id as u8;
+        }
+        ids
     }
 }

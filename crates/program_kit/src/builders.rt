@@ -18,7 +18,7 @@ pub fn make(
     layout: Layout,
     slots: usize,
     columns: usize,
-    lent: &Buffers<'_>,
+    lent: &Buffers<'_, '_>,
 ) -> Result<UnionBuilder, Refusal> {
     match (layout, slots) {
         (Layout::Dense, 1024) => UnionBuilder::new_dense(columns, lent),
@@ -68,12 +68,12 @@ pub fn len(b: &UnionBuilder) -> usize
 }
 
 // The batch so far.
-pub fn finish_cloned(b: &UnionBuilder, lent: &Buffers<'_>) -> Result<UnionArray, Refusal> {
+pub fn finish_cloned(b: &UnionBuilder, lent: &Buffers<'_, '_>) -> Result<UnionArray, Refusal> {
     b.finish_cloned(lent).answer
 }
 
 // The last batch, which empties the builder.
-pub fn finish(b: &mut UnionBuilder, lent: &Buffers<'_>) -> Result<UnionArray, Refusal> {
+pub fn finish(b: &mut UnionBuilder, lent: &Buffers<'_, '_>) -> Result<UnionArray, Refusal> {
     let r = b.finish(lent);
     *b = r.builder;
     r.answer

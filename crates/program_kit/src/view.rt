@@ -7,7 +7,7 @@ use union_array::{TypeNames, UnionArray};
 #[derive(Clone, Copy)]
 pub struct View<'a> {
     pub array: UnionArray,
-    pub lent: &'a Buffers<'a>,
+    pub lent: &'a Buffers<'a, 'a>,
 }
 
 impl<'a> View<'a> {

@@ -35,7 +35,7 @@ impl Memory {
         })
     }
 
-    fn lent(&self) -> Buffers<'_> {
+    fn lent(&self) -> Buffers<'_, '_> {
         Buffers {
             type_ids: self.type_ids.as_slice(),
             offsets: self.offsets.as_slice(),

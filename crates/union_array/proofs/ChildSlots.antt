@@ -2,7 +2,7 @@
 use mathlib.Core.Bool.{true}
 use mathlib.Core.Option.{Option, none}
 use mathlib.Core.Path.{◌≡◌, refl, sym, ap, ◌∙◌}
-use Prim.Native.Nat.{ℕ, ◌<◌}
+use Prim.Native.Nat.{ℕ, zero, suc, ◌<◌}
 use Rattle.std.specs.Prelude.{Ok, Err}
 use Rattle.std.specs.declared.option.Option as given
 use Rattle.array_slots.specs.declared.ChildSlot as code
@@ -16,7 +16,7 @@ use Rattle.array_columns.specs.Lookup.{accepted_value}
 use Rattle.union_array.specs.Slots.{in_use, type_id_at, offset_at, child_at, slot_at}
 use Rattle.union_array.specs.Questions.{column_in, asked, slot_checked}
 use Rattle.union_array.specs.Lookup.{or_none, value_in, column_value, value_told, value_of, type_id_told, type_id_of, value_offset_told, value_offset_of}
-use Rattle.union_array.specs.Look.{looked_told, look_of, child_slot_of}
+use Rattle.union_array.specs.Look.{Looked, looked_told, looked_by, look_of, child_slot_of}
 use Rattle.array_slots.specs.ChildSlot.{child_slot_told, settled}
 use Rattle.array_columns.proofs.Numbered.{if_refused, then_refused}
 use Rattle.array_slots.proofs.ChildSlots.{settled_after}
@@ -24,21 +24,24 @@ use Rattle.union_array.proofs.Accepted.{Accepted, SlotAccepted, child_is, slot_a
 use Rattle.array_columns.proofs.Columns.{all_found}
 
 module _ (a : UnionArray) (m : Buffers) (i : ℕ) where
+  -- what was looked up settles the slot
+  pub settled_is : (l : Looked) → l ≡ look_of a m (type_id_at a m i)
+      → settled l a.layout a.count i (type_id_at a m i) (offset_at a m i) ≡ child_slot_of a m i
+  unfolding settled look_of child_slot_of slot_checked
+  settled_is l e = rw e (by (asked a m))
+    where
+      by : (n : ℕ) → settled (looked_by (child_at a m i) n) a.layout a.count i (type_id_at a m i) (offset_at a m i)
+          ≡ settled_after (child_at a m i) a.layout a.count i (type_id_at a m i) (offset_at a m i) n
+      by zero = refl
+      by (suc n) = refl
+
   pub slot_refused : (r : Refusal) → looked_told (Err r) ≡ look_of a m (type_id_at a m i) → child_slot_told (Err r) ≡ child_slot_of a m i
   unfolding look_of child_slot_of slot_checked
   slot_refused r e = rw (← ap (λ l. l.refusal) e, then_refused r, if_refused r, if_refused r, if_refused r)
 
-  pub settled_is : (o : given.Option Column) → looked_told (Ok o) ≡ look_of a m (type_id_at a m i)
-      → settled (column_told o) a.layout a.count i (type_id_at a m i) (offset_at a m i) ≡ child_slot_of a m i
-  unfolding settled look_of child_slot_of slot_checked
-  settled_is o e =
-      let z : 0 ≡ asked a m = ap (λ l. l.refusal) e in
-      let f : column_told o ≡ if_yes (asked a m) (child_at a m i) none = ap (λ l. l.column) e in
-      rw (← z, ← (rw (← z) at f))
-
   -- the number is the first of what 1 to 6 give and what the slot gives
   pub settled_whole : settled_after (child_at a m i) a.layout a.count i (type_id_at a m i) (offset_at a m i) (asked a m) ≡ child_slot_of a m i
-  unfolding child_slot_of slot_checked
+  unfolding settled child_slot_of slot_checked
   settled_whole = refl
 
   -- ---- refused slots

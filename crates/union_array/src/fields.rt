@@ -61,7 +61,7 @@ impl UnionArray {
 
     // The type ids, as that part of the caller's own memory.
     #[tactic(auto, using(crate::proofs::Lookups::ids_refused, crate::proofs::Lookups::ids_are, crate::proofs::Lookups::ids_in))]
-    pub fn type_ids<'a>(self, lent: &Buffers<'a>) -> Result<&'a [i8], Refusal>
+    pub fn type_ids<'i>(self, lent: &Buffers<'i, '_>) -> Result<&'i [i8], Refusal>
         ensures { type_ids_told result ≡ type_ids_of self lent.now }
     {
         self.ask(lent)?;

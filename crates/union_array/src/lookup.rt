@@ -11,13 +11,12 @@ use array_slots::lookup::{item_at, slot_in_child};
 
 impl UnionArray {
     // Slot i's child, its slot in it and its type id: asks 1 to 6, 10, and 7 and 8 of the slot.
-    #[tactic(auto, using(crate::proofs::ChildSlots::slot_refused, crate::proofs::ChildSlots::settled_is))]
+    #[tactic(auto, using(crate::proofs::ChildSlots::settled_is))]
     fn child_slot(&self, i: usize, lent: &Buffers) -> Result<ChildSlot, Refusal>
         ensures { child_slot_told result ≡ child_slot_of self.now lent.now i }
     {
         let id = item_at(lent.type_ids, self.start, i, 0);
-        let column = self.look(id, lent)?;
-        slot_in_child(column, self.head(), i, id, lent.offsets)
+        slot_in_child(self.look(id, lent), self.head(), i, id, lent.offsets)
     }
 
     // Slot i's id, name, kind and value.

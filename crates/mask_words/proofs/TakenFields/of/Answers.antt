@@ -1,8 +1,12 @@
 use Rattle.std.proofs.Common.{◌≡◌, refl, sym, ap, ◌∙◌, ◌∷◌, [], ◌++◌, List, ℕ, arith, length, take, length-append, append-nil, Bool, true, false, cond}
-use Rattle.mask_words.specs.Steps.{taken_places}
+use Rattle.mask_words.specs.Steps.{zeros, taken_places}
 use Rattle.mask_words.proofs.TakenUp.{places_more}
 use Rattle.mask_words.proofs.TakenFields.of.Goals as goal
 use Rattle.mask_words.proofs.TakenFields.of.Goals.{then-takes, else-takes}
+
+pub invariant_of-taken : goal.invariant_of-taken
+unfolding zeros
+invariant_of-taken c = (omega arith, refl, refl)
 
 pub loop-place-init : goal.loop-place-init
 unfolding taken_places
