@@ -80,12 +80,16 @@ impl fmt::Display for Marks<'_> {
         if mask.words.is_none() {
             return Ok(());
         }
-        // By slot number, which is what a mask is asked.
+        let mut marks = [b'.'; 64];
+        // By slot number, which is what a mask is asked. A line is written at once.
         for i in 0..mask.slots {
-            if i % 64 == 0 {
-                write!(f, "\n{i:>10}  ")?;
+            let k = i % 64;
+            marks[k] = if mask.is_null(i) { b'N' } else { b'.' };
+            if k == 63 || i + 1 == mask.slots {
+                let first = i - k;
+                let line = str::from_utf8(&marks[..k + 1]).unwrap_or("");
+                write!(f, "\n{first:>10}  {line}")?;
             }
-            f.write_char(if mask.is_null(i) { 'N' } else { '.' })?;
         }
         Ok(())
     }

@@ -1,6 +1,6 @@
 // One input from its first line to its last.
 use crate::commands::Fault;
-use crate::lines;
+use crate::lines::{self, Line};
 use crate::parse::parse;
 use crate::say::{Answer, Denied};
 use crate::session::Session;
@@ -42,11 +42,12 @@ pub fn run<R: Read + Drop>(to: &mut Writer, alloc: Global, from: R) -> io::Resul
     let mut session = Session::new(alloc)?;
     // Until the input ends: a loop over it says how often at most.
     for number in 1..u64::MAX {
-        let Some(line) = lines::next(&mut from, alloc)? else {
-            break;
-        };
-        write_answer(to, number, answer(&mut session, alloc, line))?;
+        let Line { text, ended } = lines::next(&mut from, alloc)?;
+        write_answer(to, number, answer(&mut session, alloc, text))?;
         to.flush()?;
+        if ended {
+            break;
+        }
     }
     Ok(())
 }

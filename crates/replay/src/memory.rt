@@ -1,4 +1,6 @@
 // The memory that a case lends to its calls.
+ghost use Rattle.std.specs.Prelude.{◌≤◌, length};
+
 use crate::narrow;
 use crate::numbers::Numbers;
 use array_columns::BuffersMut;
@@ -46,7 +48,9 @@ pub struct Memory {
 }
 
 // What is lent of a part: one entry less to a call that is short of it, at most so many.
-fn lent<T>(list: &mut [T], short: bool, most: usize) -> &mut [T] {
+fn lent<T>(list: &mut [T], short: bool, most: usize) -> &mut [T]
+    ensures { length result.now ≤ most }
+{
     let n = parts::lent(list.len(), short, most).min(list.len());
     &mut list[..n]
 }

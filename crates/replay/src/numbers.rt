@@ -15,18 +15,18 @@ fn number(digits: &[u8]) -> u64 {
     digits.iter().fold(0, |n, digit| with_digit(n, *digit))
 }
 
-// How many numbers there are at least. Those that a text does not have are 0.
-const LEAST: usize = 131072;
+// How many numbers there are. Those that a text does not have are 0, and more of them are left out.
+const COUNT: usize = 131072;
 
 // The decimal numbers of a text, in order, and zeros after them. Each byte that is no digit ends one, and what no byte ends is none.
 pub fn parse(alloc: Global, text: &[u8]) -> Result<Vec<u64>, AllocError> {
     let mut list: Vec<u64> = text
         .split(|b| !b.is_ascii_digit())
         .map(number)
+        .take(COUNT + 1)
         .collect(alloc)?;
     list.pop();
-    let n = list.len().max(LEAST);
-    list.resize(n, 0)?;
+    list.resize(COUNT, 0)?;
     Ok(list)
 }
 
