@@ -1,7 +1,30 @@
 // The order of a finished array's columns: by the bytes of their names, of equal names the lower id first.
 ghost use Rattle.std.specs.Prelude.{◌≡◌, ◌<◌, ◌≤◌, length, All};
 ghost use Rattle.std.specs.List.{prefix_len};
+ghost use Rattle.union_names.specs.Names.{name_up_to};
 ghost use Rattle.union_names.specs.Order.{name_by, goes_before, order_of, NamesHeld};
+
+// Whether the first name is at most the second. Most names differ early, so the first bytes are compared one by one; `cmp` passes equal
+// bytes in groups, and costs more to begin.
+#[tactic(auto, using(crate::proofs::NameOrder::up_to_is, std::proofs::lemmas::Bool::Decides::nat_tests))]
+fn up_to(mut x: &[u8], mut y: &[u8]) -> bool
+    ensures { result ≡ name_up_to x.now y.now }
+{
+    for _byte in 0..4 {
+        match (x.split_first(), y.split_first()) {
+            (Some((a, xs)), Some((b, ys))) => {
+                if a != b {
+                    return a < b;
+                }
+                x = xs;
+                y = ys;
+            }
+            (None, _) => return true,
+            (_, None) => return false,
+        }
+    }
+    x.cmp(&y).is_le()
+}
 
 // The names of some columns: 32 bytes lent to each, of which `sizes` tells how many are its name's. A column is asked for by its id, so
 // each call says that there is one.
@@ -23,15 +46,6 @@ impl Names<'_> {
         &self.bytes[start..start + size]
     }
 
-    // Whether the name of column j is at most that of column k. `cmp` passes equal bytes in groups; `<=` goes byte by byte, which takes twice as long.
-    #[tactic(auto, using(crate::proofs::NameOrder::up_to_is))]
-    fn goes_before(&self, k: usize, j: usize) -> bool
-        requires { (k < length self.now.sizes.now) × (j < length self.now.sizes.now) }
-        ensures { result ≡ goes_before (name_by self.now.bytes.now self.now.sizes.now) k j }
-    {
-        self.name(j).cmp(&self.name(k)).is_le()
-    }
-
     // Where column k goes among the ids listed: behind those whose names are at most its own.
     fn place_of(&self, listed: &[u8], k: usize) -> usize
         requires k_in { k < length self.now.sizes.now }
@@ -39,9 +53,10 @@ impl Names<'_> {
         ensures place { result ≡ prefix_len (goes_before (name_by self.now.bytes.now self.now.sizes.now) k) listed.now }
         ensures at_most { result ≤ length listed.now }
     {
+        let name = self.name(k);
         listed
             .iter()
-            .take_while(|j| self.goes_before(k, **j as usize))
+            .take_while(|j| up_to(self.name(**j as usize), name))
             .count()
     }
 }
