@@ -27,7 +27,7 @@ use Rattle.builder_columns.specs.Writing.{BuilderHead, Plan, Room, put_words, pu
 -- ---- puts
 
 module _ {M : Type 0} (store : M → ℕ → Option ℕ → M) (s : ℕ) where
-  puts_append : (m : M) (ps qs : List Put) → puts store s m (ps ++ qs) ≡ puts store s (puts store s m ps) qs
+  pub puts_append : (m : M) (ps qs : List Put) → puts store s m (ps ++ qs) ≡ puts store s (puts store s m ps) qs
   puts_append m [] qs = refl
   puts_append m (p ∷ ps) qs = puts_append (store m (p.id * s + p.slot) p.value) ps qs
 

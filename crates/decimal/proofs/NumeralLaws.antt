@@ -12,7 +12,7 @@ use borrow.Author.Tests.{lt-ltb, eq-eqb, ltb-true, eqb-true}
 use Rattle.decimal.specs.Text.{glyph_of, last_digits, without_zeros, natural_text}
 
 -- a number below 2 ^ 64 has 20 digits at most
-places_few : (n k : ℕ) → n < 2 ^ 64 → 10 ^ k ≤ n → k < 20
+pub places_few : (n k : ℕ) → n < 2 ^ 64 → 10 ^ k ≤ n → k < 20
 places_few n k h l = lt_of_not-le (λ (g : 20 ≤ k). not-le_of_lt h (le_trans (le_trans (lit k g) l) (le_of_eq refl)))
   where
     lit : (k : ℕ) → 20 ≤ k → 2 ^ 64 ≤ 10 ^ k

@@ -13,6 +13,13 @@ use Rattle.bitmap.proofs.Tables.{three}
 use Rattle.union_c.specs.Numbers.{each, entries_used, first_by}
 
 module _ {A B : Type 0} (f : A → B) where
+  pub first_length : (n : ℕ) (xs : List A) (rest : List B) → length (first_by n f xs rest) ≡ length rest
+  unfolding first_by
+  first_length zero xs rest = refl
+  first_length (suc n) [] rest = refl
+  first_length (suc n) (x ∷ xs) [] = refl
+  first_length (suc n) (x ∷ xs) (y ∷ rest) = ap suc (first_length n xs rest)
+
   pub first_none : (xs : List A) (rest : List B) → rest ≡ first_by 0 f xs rest
   unfolding first_by
   first_none xs rest = refl
