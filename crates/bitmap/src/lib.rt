@@ -5,8 +5,14 @@ ghost use Rattle.std.specs.Prelude.{◌≡◌, ℕ, ◌+◌, ◌*◌, ◌%◌, �
 ghost use Rattle.std.specs.Int.Signed.{non_neg};
 ghost use Rattle.bitmap.specs.Bits.{pack, bit_at, set_bit, words_for, chunk_of, nulls_of, is_fully_null, selections_of};
 
+mod bit_range;
+#[cfg(test)]
+mod tests;
+
+pub use bit_range::BitRange;
+
 // A validity mask: the `len` bits of the words from bit `bit` of word `word` on. `bit` may be 64 or more, and then lies in a later
-// word.
+// word. `bit` and `len` add up to a number of the machine, which those of a BitRange need not.
 #[derive(Clone, Copy)]
 pub struct Mask<'a> {
     pub words: &'a [u64],
@@ -14,43 +20,44 @@ pub struct Mask<'a> {
     pub bit: usize,
     pub len: usize,
     pub ghost inside: { 64 * word + bit + len ≤ 64 * length words.now },
-    pub ghost short: { bit + len ≤ 2 ^ 64 },
+    pub ghost short: { bit + len < 2 ^ 64 },
 }
 
-impl Mask<'_> {
+impl<'a> Mask<'a> {
+    // The same bits.
+    fn bits(self) -> BitRange<'a>
+        ensures words { result.words.now ≡ self.entry.words.now }
+        ensures place { (result.word ≡ self.entry.word) × (result.bit ≡ self.entry.bit) × (result.len ≡ self.entry.len) }
+    {
+        BitRange {
+            words: self.words,
+            word: self.word,
+            bit: self.bit,
+            len: self.len,
+        }
+    }
+
     // Whether bit i is set.
-    #[tactic(auto, using(crate::proofs::Words::read_bit))]
     pub fn get(self, i: usize) -> bool
         requires { i < self.len }
         ensures { result ≡ bit_at self.entry.words.now (64 * self.entry.word + self.entry.bit + i) }
     {
-        let at = self.bit + i;
-        (self.words[self.word + at / 64] >> (at % 64)) & 1 == 1
+        self.bits().get(i)
     }
 
     // Chunk k: the 64 bits from bit 64k on; past the mask they are 0.
-    #[tactic(auto, using(crate::proofs::Chunks::chunk_cut))]
     pub fn chunk(self, k: usize) -> u64
         requires { 64 * k < self.len }
         ensures { result ≡ chunk_of self.entry.words.now (64 * self.entry.word + self.entry.bit) self.entry.len k }
     {
-        let done = 64 * k;
-        let at = self.bit + done;
-        let x = joined(self.words, self.word + at / 64, at % 64);
-        low(x, span(self.len - done))
+        self.bits().chunk(k)
     }
 
     // How many bits are clear: its length less its set bits.
-    #[tactic(auto, using(crate::proofs::Counts::nulls_le, crate::proofs::Counts::chunk_ones), unfolding(crate::specs::Bits::words_for))]
     pub fn null_count(self) -> usize
         ensures { result ≡ nulls_of self.entry.words.now (64 * self.entry.word + self.entry.bit) self.entry.len }
     {
-        let mut set = 0;
-        // A chunk can lie in two words, so the loop counts chunks: no slice holds them.
-        for k in 0..words_for(self.len) {
-            set += self.chunk(k).count_ones() as usize;
-        }
-        self.len - set
+        self.bits().null_count()
     }
 }
 

@@ -1,7 +1,7 @@
 -- The set bits and the nulls before chunk k are its bits, at most len of them. Assumes nothing.
 use Rattle.std.proofs.Common.{◌≡◌, ◌+◌, ◌*◌, min}
 use Rattle.bitmap.specs.Bits.{nulls_of}
-use Rattle.bitmap.proofs.Mask.null_count.Given as goal
+use Rattle.bitmap.proofs.bit_range.BitRange.null_count.Given as goal
 
 abbrev pub invariant-loop-k : goal.invariant-loop-k
 invariant-loop-k l =
