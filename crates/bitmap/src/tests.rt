@@ -1,4 +1,7 @@
 // Bits of four words, told by hand: bit j of word k is bit 64k + j, the lowest bit first.
+ghost use Rattle.std.specs.Prelude.{◌≡◌, ◌+◌, ◌*◌, ◌<◌, length};
+ghost use Rattle.bitmap.specs.Bits.{bit_at};
+
 use crate::{BitRange, Mask};
 
 const WORDS: [u64; 4] = [0, 0x8000_0000_0000_0001, 0b101, u64::MAX];
@@ -6,6 +9,20 @@ const WORDS: [u64; 4] = [0, 0x8000_0000_0000_0001, 0b101, u64::MAX];
 // A mask's first bit and its length together; each mask promises that they add up to a number of the machine.
 fn end(mask: Mask<'_>) -> usize {
     mask.bit + mask.len
+}
+
+// Bit `bit` from word `word` on: any that a number names, bit 2^64 - 1 too, which no mask has.
+fn get_bit(words: &[u64], word: usize, bit: usize) -> bool
+    requires { 64 * word + bit < 64 * length words.now }
+    ensures { result ≡ bit_at words.now (64 * word + bit) }
+{
+    let one = BitRange {
+        words,
+        word,
+        bit,
+        len: 1,
+    };
+    one.get(0)
 }
 
 // The last bit of word 1, and three bits of word 2: set, set, clear, set.
@@ -40,6 +57,8 @@ fn bit_range_tells_bits(rt: HostRuntime) {
     assert_eq!(rt; range.chunk(0), 0b101);
     assert_eq!(rt; range.chunk(1), 0b111111);
     assert_eq!(rt; range.null_count(), 62);
+    assert_eq!(rt; get_bit(&WORDS, 1, 66), true);
+    assert_eq!(rt; get_bit(&WORDS, 1, 67), false);
 }
 
 #[test]
